@@ -1,0 +1,5 @@
+pub mod Format
+pub mod Laid
+pub mod Reading
+pub mod Text
+pub mod Writing

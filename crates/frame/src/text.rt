@@ -1,0 +1,67 @@
+// Frames as text, a line for each.
+ghost use mathlib.Core.Path.{_≡_};
+ghost use mathlib.Core.List.{map};
+ghost use Rattle.std.specs.declared.option.Option.the-variants.{Some};
+ghost use Rattle.frame.specs.Format.{content, call as said};
+ghost use Rattle.frame.specs.Text.{visible as shown-as, says};
+use crate::frame::*;
+use std::fmt;
+
+// Bytes as text, with a full stop for each that is not a printable ASCII character.
+#[derive(Clone, Copy)]
+pub struct Printable<'a>(pub &'a [u8]);
+
+fn visible(byte: u8) -> char
+    ensures { λ r. ⌜ r ≡ shown-as byte ⌝ }
+{
+    match byte {
+        32..=126 => byte as char,
+        _ => '.',
+    }
+}
+
+pub impl fmt::Display for Printable<'_> as PrintableDisplay {
+    ghost shown = { λ x. Some (map shown-as (x .0 .now)) };
+
+    fn fmt<W: fmt::Write>(&self, f: &mut fmt::Formatter<W>) -> fmt::Result {
+        for byte in self.0 {
+            f.write_char(visible(*byte))?;
+        }
+        Ok(())
+    }
+}
+
+pub impl fmt::Display for Call as CallDisplay {
+    ghost shown = { λ x. Some (says (said x)) };
+
+    fn fmt<W: fmt::Write>(&self, f: &mut fmt::Formatter<W>) -> fmt::Result {
+        match *self {
+            Call::Post { item, line, word } => write!(f, "post {item} {line} {word}"),
+            Call::Get { item, line } => write!(f, "get {item} {line}"),
+            Call::Off { bay } => write!(f, "off {bay}"),
+            Call::On { bay } => write!(f, "on {bay}"),
+            Call::Release { bay } => write!(f, "release {bay}"),
+            Call::Seat => write!(f, "seat"),
+            Call::Mend { bay } => write!(f, "mend {bay}"),
+        }
+    }
+}
+
+pub impl fmt::Display for Frame<'_> as FrameDisplay {
+    ghost shown = { λ x. Some (says (content x)) };
+
+    fn fmt<W: fmt::Write>(&self, f: &mut fmt::Formatter<W>) -> fmt::Result {
+        match *self {
+            Frame::Start { items, lines, field } => write!(f, "start {items} {lines} {field}"),
+            Frame::Call(call) => write!(f, "{call}"),
+            Frame::Note(text) => {
+                let text = Printable(text);
+                write!(f, "note {text}")
+            }
+            Frame::Unknown { kind: _, body } => {
+                let length = body.len();
+                write!(f, "skip {length}")
+            }
+        }
+    }
+}
