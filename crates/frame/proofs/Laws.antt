@@ -7,9 +7,8 @@ use native.Mathlib.Omega.{arith}
 use lib.Dec.{eqb, leb, ltb}
 use lib.ListN.{length, getD, take, drop, length-append, length-drop, take-append-drop}
 use lib.Seq.{length-take-le, getD-drop}
-use denote.Ref.{RefT}
 use borrow.Author.Tests.{leb-true}
-use Rattle.std.proofs.shelf.Lists.{take-at, drop-at, drop-drop}
+use Rattle.std.proofs.shelf.Lists.{take-at, drop-at, drop-drop, length-push}
 use Rattle.std.proofs.shelf.Ways.{tells}
 use Rattle.std.specs.Options.{okOr, mapped}
 use Rattle.std.specs.declared.option.Option.{Option}
@@ -23,7 +22,7 @@ use Rattle.frame.specs.declared.frame.Call.the-variants.{Post, Get, Off, On, R
 use Rattle.frame.specs.declared.frame.Frame.{Frame}
 use Rattle.frame.specs.declared.reader.Reader.{Reader}
 use Rattle.frame.specs.Format.{Content, start, call, note, unknown, Whole, number, two, front, framed, size, meant, kind-of, body-of, bytes-of, proper}
-use Rattle.frame.specs.Reading.{Answer, Step, step, taken, told, Steps}
+use Rattle.frame.specs.Reading.{Answer, Step, step, taken, told, Steps, file-of, bytes-left}
 use Rattle.frame.specs.Laid.{Cut, Laid, ended, cut, frame, Answered}
 use Rattle.frame.specs.Writing.{ReadsBack}
 use Rattle.frame.proofs.Fronts.{chosen, front-is, front-fits, step-whole}
@@ -168,38 +167,46 @@ step-ended : (offset : ℕ) (bytes rest : List ℕ) → record { answer = None; 
 step-ended offset [] rest e = refl
 step-ended offset (x ∷ bytes) rest e = absurd (answers-some offset (x ∷ bytes) (front (x ∷ bytes)) (sym (ap (λ (s : Step). s .answer) e)))
 
--- The answers so far, of a reader that has come to an offset: the answers that are still to come make them whole.
-abbrev pub Sofar : List ℕ → List Answer → ℕ → Type 0
-Sofar file seen offset = (more : List Answer) → Laid offset (drop offset file) more → Laid 0 file (seen ++ more)
+-- A reader of the file that has given the answers so far: the answers that are still to come make them whole.
+pub record Sofar (file : List ℕ) (seen : List Answer) (s : Reader) : Type 0 where
+  pub here : file-of s ≡ file
+  pub front : (more : List Answer) → Laid (s .offset) (drop (s .offset) file) more → Laid 0 file (seen ++ more)
+  pub few : length seen + length (bytes-left s) ≤ length file
 
-pub sofar-none : (file : List ℕ) → Sofar file [] 0
-sofar-none file more l = l
+pub sofar-none : (file : List ℕ) (s : Reader) → file-of s ≡ file → s .offset ≡ 0 → Sofar file [] s
+sofar-none file s here zeroth =
+    let all : drop (s .offset) file ≡ file = ap (λ k. drop k file) zeroth in
+    record {
+      here = here;
+      front = λ more l. subst₂ (λ k bytes. Laid k bytes more) zeroth all l;
+      few = omega (arith, ap length (ap (drop (s .offset)) here ∙ all));
+    }
 
-pub sofar-all : (file : List ℕ) (seen : List Answer) (offset : ℕ) → drop offset file ≡ [] → Sofar file seen offset → Answered file seen
-sofar-all file seen offset none so =
-    let laid = rw append-nil at (so [] (ended none)) in
-    record { laid = laid; only = λ others l. laid-same laid l }
-
-module _ (file : List ℕ) (seen : List Answer) (s t : Reader) (r : Option (Result Frame FileFault)) (here : s .file .now ≡ file) (one : Steps s r t) (so : Sofar file seen (s .offset)) where
-  file-after : t .file .now ≡ file
-  file-after = ap (λ (f : RefT (List ℕ)). f .now) (one .0) ∙ here
+module _ {file : List ℕ} {seen : List Answer} {s : Reader} (t : Reader) (r : Option (Result Frame FileFault)) (sofar : Sofar file seen s) (one : Steps s r t) where
+  here-after : file-of t ≡ file
+  here-after = one .0 ∙ sofar .here
 
   step-here : record { answer = mapped told r; rest = drop (t .offset) file } ≡ step (s .offset) (drop (s .offset) file)
   step-here =
-      sym (ap (λ f. record { answer = mapped told r; rest = drop (t .offset) f }) file-after)
-      ∙ one .1 ∙ ap (λ f. step (s .offset) (drop (s .offset) f)) here
+      sym (ap (λ f. record { answer = mapped told r; rest = drop (t .offset) f }) here-after)
+      ∙ one .1 ∙ ap (λ f. step (s .offset) (drop (s .offset) f)) (sofar .here)
 
-  pub sofar-more : Bytes file → (a : Result Frame FileFault) → r ≡ Some a → Sofar file (seen ++ (told a ∷ [])) (t .offset)
-  sofar-more small a is more l =
+  pub sofar-more : Bytes file → length (bytes-left t) < length (bytes-left s) → (a : Result Frame FileFault) → r ≡ Some a → Sofar file (seen ++ (told a ∷ [])) t
+  sofar-more small less a is =
       let bytes = drop (s .offset) file in
       let rest = drop (t .offset) file in
       let below : Bytes bytes = λ i. subst (λ n. n < 256) (sym (getD-drop (s .offset) file i 0)) (small (s .offset + i)) in
       let place : t .offset + length rest ≡ s .offset + length bytes =
-      omega (arith, length-drop (t .offset) file, length-drop (s .offset) file, ap length here, ap length file-after, s .within, t .within) in
+      omega (arith, length-drop (t .offset) file, length-drop (s .offset) file, ap length (sofar .here), ap length here-after, s .within, t .within) in
       let said = subst (λ o. record { answer = mapped told o; rest = rest } ≡ step (s .offset) bytes) is step-here in
-      rw append-assoc (so (told a ∷ more) (step-laid (s .offset) (t .offset) bytes rest (told a) below place said more l))
+      record {
+        here = here-after;
+        front = λ more l. rw append-assoc (sofar .front (told a ∷ more) (step-laid (s .offset) (t .offset) bytes rest (told a) below place said more l));
+        few = omega (arith, sofar .few, less, length-push seen (told a));
+      }
 
   pub sofar-end : r ≡ None → Answered file seen
   sofar-end is =
       let said = subst (λ o. record { answer = mapped told o; rest = drop (t .offset) file } ≡ step (s .offset) (drop (s .offset) file)) is step-here in
-      sofar-all file seen (s .offset) (step-ended (s .offset) (drop (s .offset) file) _ said) so
+      let laid = rw append-nil at (sofar .front [] (ended (step-ended (s .offset) (drop (s .offset) file) _ said))) in
+      record { laid = laid; only = λ others l. laid-same laid l }

@@ -1,5 +1,4 @@
 pub mod Format
 pub mod Laid
 pub mod Reading
-pub mod Text
 pub mod Writing

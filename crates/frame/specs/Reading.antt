@@ -42,9 +42,13 @@ abbrev pub told : Result Frame FileFault → Answer
 told (Ok frame) = Ok (content frame)
 told (Err fault) = Err fault
 
+-- A reader by its file, and by the bytes from where its next frame begins.
+abbrev pub file-of : Reader → List ℕ
+file-of s = s .file .now
+
 abbrev pub bytes-left : Reader → List ℕ
-bytes-left s = drop (s .offset) (s .file .now)
+bytes-left s = drop (s .offset) (file-of s)
 
 -- What one call of a reader's `next` does.
 abbrev pub Steps : Reader → Option (Result Frame FileFault) → Reader → Type 0
-Steps s r t = (t .file ≡ s .file) × (record { answer = mapped told r; rest = bytes-left t } ≡ step (s .offset) (bytes-left s))
+Steps s r t = (file-of t ≡ file-of s) × (record { answer = mapped told r; rest = bytes-left t } ≡ step (s .offset) (bytes-left s))

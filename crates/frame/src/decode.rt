@@ -30,11 +30,19 @@ pub fn decode<'a>(kind: u16, body: &'a [u8]) -> Option<Frame<'a>>
             item: number(*a, *b),
             line: number(*c, *d),
         })),
-        (OFF, [a, b]) => Some(Frame::Call(Call::Off { bay: number(*a, *b) })),
-        (ON, [a, b]) => Some(Frame::Call(Call::On { bay: number(*a, *b) })),
-        (RELEASE, [a, b]) => Some(Frame::Call(Call::Release { bay: number(*a, *b) })),
+        (OFF, [a, b]) => Some(Frame::Call(Call::Off {
+            bay: number(*a, *b),
+        })),
+        (ON, [a, b]) => Some(Frame::Call(Call::On {
+            bay: number(*a, *b),
+        })),
+        (RELEASE, [a, b]) => Some(Frame::Call(Call::Release {
+            bay: number(*a, *b),
+        })),
         (SEAT, []) => Some(Frame::Call(Call::Seat)),
-        (MEND, [a, b]) => Some(Frame::Call(Call::Mend { bay: number(*a, *b) })),
+        (MEND, [a, b]) => Some(Frame::Call(Call::Mend {
+            bay: number(*a, *b),
+        })),
         (NOTE, [_, ..]) if body.len() <= LONGEST_NOTE => Some(Frame::Note(body)),
         (START..=NOTE, _) => None,
         _ => Some(Frame::Unknown { kind, body }),

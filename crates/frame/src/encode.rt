@@ -80,12 +80,17 @@ pub fn encode(heap: Global, frame: Frame<'_>) -> Result<Vec<u8>, WriteFault>
     ensures back { λ r. ⌜ made r (λ v. ReadsBack (content (frame .entry)) (vec-items v)) ⌝ }
 {
     match frame {
-        Frame::Start { items, lines, field } => Ok(wrap(heap, START, &three(items, lines, field))?),
+        Frame::Start {
+            items,
+            lines,
+            field,
+        } => Ok(wrap(heap, START, &three(items, lines, field))?),
         Frame::Call(call) => Ok(encode_call(heap, call)?),
         Frame::Note(text) if !text.is_empty() && text.len() <= LONGEST_NOTE => {
             Ok(wrap(heap, NOTE, text)?)
         }
-        Frame::Unknown { kind, body } if (kind < START || kind > NOTE) && body.len() <= LONGEST_BODY => {
+        Frame::Unknown { kind, body }
+            if (kind < START || kind > NOTE) && body.len() <= LONGEST_BODY => {
             Ok(wrap(heap, kind, body)?)
         }
         _ => Err(WriteFault::Improper),

@@ -9,7 +9,7 @@ use Rattle.fault.specs.Table.{row, printed}
 use Rattle.fault.specs.declared.fault.Fault.the-variants.{File}
 use Rattle.frame.specs.Reading.{Answer}
 use Rattle.frame.specs.Laid.{Answered}
-use Rattle.frame.specs.Text.{says}
+use Rattle.listing.specs.Text.{says}
 
 -- What the frame says, or `no` and the refusal.
 abbrev pub answer-text : Answer → List ℕ

@@ -5,6 +5,8 @@ ghost use Rattle.std.specs.Vec.{made};
 ghost use Rattle.std.specs.declared.option.Option.the-variants.{Some};
 ghost use Rattle.frame.specs.Reading.{told};
 ghost use Rattle.listing.specs.Lines.{line-text, Listed};
+use crate::text::FrameDisplay;
+use crate::text::FrameText;
 use fault::fault::Fault;
 use fault::fault::FaultDisplay;
 use fault::fault::FaultFromFile;
@@ -12,10 +14,11 @@ use fault::fault::FileFault;
 use frame::frame::Frame;
 use frame::reader::Reader;
 use frame::reader::next::ReaderIterator;
-use frame::text::FrameDisplay;
 use std::alloc::AllocError;
 use std::alloc::Global;
 use std::fmt;
+
+pub mod text;
 
 // The line of one frame.
 #[derive(Clone, Copy)]
@@ -30,7 +33,10 @@ impl fmt::Display for Line<'_> as LineDisplay {
     fn fmt<W: fmt::Write>(&self, f: &mut fmt::Formatter<W>) -> fmt::Result {
         let number = self.number;
         match self.answer {
-            Ok(frame) => write!(f, "{number} {frame}"),
+            Ok(frame) => {
+                let frame = FrameText(frame);
+                write!(f, "{number} {frame}")
+            }
             Err(fault) => {
                 let fault = Fault::from(fault);
                 write!(f, "{number} no {fault}")

@@ -3,7 +3,7 @@ ghost use mathlib.Core.Path.{_≡_};
 ghost use lib.ListN.{length};
 ghost use Rattle.std.specs.Options.{mapped};
 ghost use Rattle.frame.specs.Format.{front};
-ghost use Rattle.frame.specs.Reading.{raw, Steps, bytes-left};
+ghost use Rattle.frame.specs.Reading.{raw, Steps, file-of, bytes-left};
 use crate::decode::decode;
 use crate::decode::number;
 use crate::frame::Frame;
@@ -32,12 +32,15 @@ fn split_front<'a>(bytes: &'a [u8]) -> Option<RawFrame<'a>>
         return None;
     }
     let kind = number(*c, *d);
-    Some(RawFrame { kind, body: &more[0..length] })
+    Some(RawFrame {
+        kind,
+        body: &more[0..length],
+    })
 }
 
 impl<'a> Reader<'a> {
     pub fn new(file: &'a [u8]) -> Reader<'a>
-        ensures file { λ r. ⌜ r .file ≡ file .entry ⌝ }
+        ensures file { λ r. ⌜ file-of r ≡ now (file .entry) ⌝ }
         ensures start { λ r. ⌜ r .offset ≡ 0 ⌝ }
     {
         Reader { file, offset: 0 }
