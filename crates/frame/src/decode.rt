@@ -5,14 +5,14 @@ ghost use Rattle.frame.specs.Format.{number as pair, content, meant};
 use crate::frame::*;
 
 // Two bytes of a body, the low one first.
-pub fn number(low: u8, high: u8) -> u16
+pub(crate) fn number(low: u8, high: u8) -> u16
     ensures { λ r. ⌜ r ≡ pair low high ⌝ }
 {
     u16::from_le_bytes([low, high])
 }
 
 // What a frame says, or nothing where the body's length is wrong for the kind.
-pub fn decode<'a>(kind: u16, body: &'a [u8]) -> Option<Frame<'a>>
+pub(crate) fn decode<'a>(kind: u16, body: &'a [u8]) -> Option<Frame<'a>>
     ensures { λ r. ⌜ mapped content r ≡ meant kind (now (body .entry)) ⌝ }
 {
     match (kind, body) {

@@ -15,7 +15,7 @@ const HEAD: usize = 4;
 
 // A frame that is whole, of any kind and with any body.
 #[derive(Clone, Copy)]
-pub struct RawFrame<'a> {
+pub(crate) struct RawFrame<'a> {
     kind: u16,
     body: &'a [u8],
 }
