@@ -1,0 +1,8 @@
+-- The constant is v u.
+use borrow.Author.Needs.{needs}
+use Rattle.extension.specs.Extend.{extend}
+use Rattle.extension.proofs.ext.ExtField.constant.Needs as need
+
+pub returns : need.returns
+unfolding extend
+returns g c = search needs

@@ -1,0 +1,8 @@
+-- The number is a + q b.
+use borrow.Author.Needs.{needs}
+use Rattle.extension.specs.Extend.{extend}
+use Rattle.extension.proofs.ext.ExtField.number.Needs as need
+
+pub returns : need.returns
+unfolding extend
+returns g c = search needs

@@ -1,0 +1,8 @@
+-- Zero is the base field's.
+use borrow.Author.Needs.{needs}
+use Rattle.extension.specs.Extend.{extend}
+use Rattle.extension.proofs.ext.ExtField.zero.Needs as need
+
+pub returns : need.returns
+unfolding extend
+returns g c = search needs

@@ -1,0 +1,4 @@
+pub mod Formulas
+pub mod Laws
+pub mod Extend
+pub mod Piles

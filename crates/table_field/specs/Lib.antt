@@ -1,0 +1,4 @@
+pub mod CarriedLaws
+pub mod Carried
+pub mod Equals
+pub mod Table

@@ -1,0 +1,4 @@
+pub mod Tower
+pub mod Product
+pub mod Piles
+pub mod Worked
