@@ -1,0 +1,4 @@
+pub mod Halving
+pub mod Shifting
+pub mod ByHalves
+pub mod Checks

@@ -1,0 +1,5 @@
+mod Admitting
+mod Counting
+mod Filling
+mod PresentSums
+mod Solving

@@ -1,0 +1,4 @@
+pub mod Absences
+pub mod Restored
+pub mod System
+pub mod Worked
