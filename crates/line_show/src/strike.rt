@@ -3,7 +3,7 @@ use field::BaseField;
 use field::Field;
 
 #[derive(Clone, Copy)]
-pub struct Tally {
+pub(crate) struct Tally {
     pub sets: u64,
     pub whole: u64,
 }
@@ -55,7 +55,7 @@ fn strike_below<F: BaseField>(
 }
 
 // How many bays at most are struck out together, so that lines of any length take a moment.
-pub fn most_absent(bays: usize) -> u8 {
+pub(crate) fn most_absent(bays: usize) -> u8 {
     match bays {
         0..=28 => 4,
         29..=64 => 3,
@@ -64,7 +64,7 @@ pub fn most_absent(bays: usize) -> u8 {
 }
 
 // Restores the codeword without each set of at most so many of its bays.
-pub fn strike_out<F: BaseField>(
+pub(crate) fn strike_out<F: BaseField>(
     codeword: &[u16],
     marks: &mut [u8],
     work: &mut [u16],
