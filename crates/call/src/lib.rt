@@ -1,5 +1,5 @@
 // The calls to a bank, with the numbers that they are made with.
-#[derive(Clone, Copy)]
+#[derive(Clone, Copy, PartialEq, Eq, Debug)]
 pub enum Call {
     Post { item: u16, line: u16, word: u16 },
     Get { item: u16, line: u16 },

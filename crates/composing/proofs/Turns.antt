@@ -10,9 +10,9 @@ use Rattle.fault.specs.declared.fault.FileFault.TheVariants.{BodyLength}
 use Rattle.call.specs.declared.Call.TheVariants as call
 use Rattle.frame.specs.Format.{Content, start, call, note, unknown, kind_of, body_of, bytes_of, proper}
 use Rattle.frame.specs.Reading.{Answer}
-use Rattle.frame_text.specs.Text.{says}
-use Rattle.frame_writing.specs.Laid.{Laid, ended, frame, Answered}
-use Rattle.frame_writing.proofs.Laws.{meant_back, laid_same}
+use Rattle.listing.specs.Text.{says}
+use Rattle.frame.specs.Laid.{Laid, ended, frame, Answered}
+use Rattle.frame.proofs.Laws.{meant_back, laid_same}
 use Rattle.parsing.specs.Line.{Sayable, Says}
 use Rattle.parsing.specs.Splits.{front_of, back_of, behind}
 use Rattle.parsing.proofs.Parting.{parts_whole}

@@ -4,8 +4,8 @@ use Rattle.std.specs.List.{flat_map, AllByRecursion as All}
 use Rattle.std.specs.declared.alloc.Global.{Global}
 use Rattle.frame.specs.Format.{Content, bytes_of}
 use Rattle.frame.specs.Reading.{Answer}
-use Rattle.frame_text.specs.Text.{says}
-use Rattle.frame_writing.specs.Laid.{Answered}
+use Rattle.listing.specs.Text.{says}
+use Rattle.frame.specs.Laid.{Answered}
 use Rattle.parsing.specs.Line.{Sayable, Says}
 use Rattle.composing.specs.declared.ComposeError.{ComposeError}
 use Rattle.composing.specs.declared.ComposeError.TheVariants.{Line, TooLong, Memory}

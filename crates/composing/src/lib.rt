@@ -3,7 +3,7 @@ ghost use Rattle.std.specs.Prelude.{◌≡◌};
 ghost use Rattle.composing.specs.Composed.{silent, Answers};
 ghost use Rattle.composing.specs.declared.ComposeError.TheVariants.{Memory};
 
-use frame_writing::encode;
+use frame::encode::encode;
 use input::LONGEST_FILE;
 use parsing::parse::parse;
 use parsing::reason::Reason;

@@ -5,10 +5,11 @@ ghost use Rattle.fault.specs.declared.fault.Fault.TheVariants.{File, Book, Rack}
 ghost use Rattle.fault.specs.Table.{row, printed};
 
 use crate::layer::Layer;
+use std::error::Error;
 use std::fmt;
 
 // Refusals of the round file; the place is the byte offset of the frame.
-#[derive(Clone, Copy)]
+#[derive(Clone, Copy, PartialEq, Eq, Debug)]
 pub enum FileFault {
     // The frame's head or body is cut short.
     CutShort(usize),
@@ -21,7 +22,7 @@ pub enum FileFault {
 }
 
 // Refusals of the book, the line code and the field.
-#[derive(Clone, Copy)]
+#[derive(Clone, Copy, PartialEq, Eq, Debug)]
 pub enum BookFault {
     // The number of items is 0 or above the size of the base field; the place is that number, in `restore` the length.
     ItemCount(usize),
@@ -49,7 +50,7 @@ pub enum BookFault {
 }
 
 // Refusals of a rack.
-#[derive(Clone, Copy)]
+#[derive(Clone, Copy, PartialEq, Eq, Debug)]
 pub enum RackFault {
     NoBay(usize),
     NoLine(usize),
@@ -61,78 +62,106 @@ pub enum RackFault {
     NoJoin(usize),
 }
 
-#[derive(Clone, Copy)]
+#[derive(Clone, Copy, PartialEq, Eq, Debug)]
 pub enum Fault {
     File(FileFault),
     Book(BookFault),
     Rack(RackFault),
 }
 
-// The number and the place of each fault.
 impl FileFault {
-    fn row(self) -> (u8, usize)
-        ensures number { result.0 ≡ (row (File self)).number }
-        ensures place { result.1 ≡ (row (File self)).place }
+    fn number(self) -> u8
+        ensures { result ≡ (row (File self)).number }
     {
         match self {
-            FileFault::CutShort(offset) => (31, offset),
-            FileFault::BodyLength(offset) => (32, offset),
-            FileFault::NotNow(offset) => (33, offset),
-            FileFault::NoField(offset) => (34, offset),
+            FileFault::CutShort(_) => 31,
+            FileFault::BodyLength(_) => 32,
+            FileFault::NotNow(_) => 33,
+            FileFault::NoField(_) => 34,
+        }
+    }
+
+    fn place(self) -> usize
+        ensures { result ≡ (row (File self)).place }
+    {
+        match self {
+            FileFault::CutShort(offset) => offset,
+            FileFault::BodyLength(offset) => offset,
+            FileFault::NotNow(offset) => offset,
+            FileFault::NoField(offset) => offset,
         }
     }
 }
 
 impl BookFault {
-    fn row(self) -> (u8, usize)
-        ensures number { result.0 ≡ (row (Book self)).number }
-        ensures place { result.1 ≡ (row (Book self)).place }
+    fn number(self) -> u8
+        ensures { result ≡ (row (Book self)).number }
     {
         match self {
-            BookFault::ItemCount(count) => (1, count),
-            BookFault::OtherRack(bays) => (2, bays),
-            BookFault::ListLength(length) => (3, length),
-            BookFault::TooManySilent(count) => (4, count),
-            BookFault::NoItem(item) => (5, item),
-            BookFault::NoLine(line) => (6, line),
-            BookFault::WordTooLarge(word) => (7, word),
-            BookFault::NoBay(bay) => (8, bay),
-            BookFault::FourBehind(bay) => (9, bay),
-            BookFault::NotBehind(bay) => (10, bay),
-            BookFault::TooManyAbsent(count) => (11, count),
-            BookFault::NoElement(number) => (12, number),
-            BookFault::NoCodeword => (13, 0),
+            BookFault::ItemCount(_) => 1,
+            BookFault::OtherRack(_) => 2,
+            BookFault::ListLength(_) => 3,
+            BookFault::TooManySilent(_) => 4,
+            BookFault::NoItem(_) => 5,
+            BookFault::NoLine(_) => 6,
+            BookFault::WordTooLarge(_) => 7,
+            BookFault::NoBay(_) => 8,
+            BookFault::FourBehind(_) => 9,
+            BookFault::NotBehind(_) => 10,
+            BookFault::TooManyAbsent(_) => 11,
+            BookFault::NoElement(_) => 12,
+            BookFault::NoCodeword => 13,
+        }
+    }
+
+    fn place(self) -> usize
+        ensures { result ≡ (row (Book self)).place }
+    {
+        match self {
+            BookFault::ItemCount(count) => count,
+            BookFault::OtherRack(bays) => bays,
+            BookFault::ListLength(length) => length,
+            BookFault::TooManySilent(count) => count,
+            BookFault::NoItem(item) => item,
+            BookFault::NoLine(line) => line,
+            BookFault::WordTooLarge(word) => word,
+            BookFault::NoBay(bay) => bay,
+            BookFault::FourBehind(bay) => bay,
+            BookFault::NotBehind(bay) => bay,
+            BookFault::TooManyAbsent(count) => count,
+            BookFault::NoElement(number) => number,
+            BookFault::NoCodeword => 0,
         }
     }
 }
 
 impl RackFault {
-    fn row(self) -> (u8, usize)
-        ensures number { result.0 ≡ (row (Rack self)).number }
-        ensures place { result.1 ≡ (row (Rack self)).place }
+    fn number(self) -> u8
+        ensures { result ≡ (row (Rack self)).number }
     {
         match self {
-            RackFault::NoBay(bay) => (21, bay),
-            RackFault::NoLine(line) => (22, line),
-            RackFault::Silent(bay) => (23, bay),
-            RackFault::BadShape(words) => (24, words),
-            RackFault::NoJoin(bays) => (25, bays),
+            RackFault::NoBay(_) => 21,
+            RackFault::NoLine(_) => 22,
+            RackFault::Silent(_) => 23,
+            RackFault::BadShape(_) => 24,
+            RackFault::NoJoin(_) => 25,
+        }
+    }
+
+    fn place(self) -> usize
+        ensures { result ≡ (row (Rack self)).place }
+    {
+        match self {
+            RackFault::NoBay(bay) => bay,
+            RackFault::NoLine(line) => line,
+            RackFault::Silent(bay) => bay,
+            RackFault::BadShape(words) => words,
+            RackFault::NoJoin(bays) => bays,
         }
     }
 }
 
 impl Fault {
-    fn row(self) -> (u8, usize)
-        ensures number { result.0 ≡ (row self).number }
-        ensures place { result.1 ≡ (row self).place }
-    {
-        match self {
-            Fault::File(fault) => fault.row(),
-            Fault::Book(fault) => fault.row(),
-            Fault::Rack(fault) => fault.row(),
-        }
-    }
-
     pub fn layer(self) -> Layer
         ensures { result ≡ (row self).layer }
     {
@@ -146,13 +175,21 @@ impl Fault {
     pub fn number(self) -> u8
         ensures { result ≡ (row self).number }
     {
-        self.row().0
+        match self {
+            Fault::File(fault) => fault.number(),
+            Fault::Book(fault) => fault.number(),
+            Fault::Rack(fault) => fault.number(),
+        }
     }
 
     pub fn place(self) -> usize
         ensures { result ≡ (row self).place }
     {
-        self.row().1
+        match self {
+            Fault::File(fault) => fault.place(),
+            Fault::Book(fault) => fault.place(),
+            Fault::Rack(fault) => fault.place(),
+        }
     }
 }
 
@@ -192,3 +229,5 @@ impl fmt::Display for Fault {
         write!(f, "{letter} {number} {place}")
     }
 }
+
+impl Error for Fault {}

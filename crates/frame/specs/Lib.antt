@@ -1,2 +1,4 @@
 pub mod Format
+pub mod Laid
 pub mod Reading
+pub mod Writing

@@ -1,5 +1,5 @@
 // What the frames of a round file say.
-use call::Call;
+pub use call::Call;
 
 // The number of each kind of frame. Any other number is an unknown kind.
 pub const START: u16 = 1;
@@ -27,11 +27,10 @@ pub const LONGEST_NOTE: usize = 60;
 pub const LONGEST_BODY: usize = 65_535;
 
 // A frame with a body of the right length. A note and a frame of an unknown kind borrow their body from the file.
-#[derive(Clone, Copy)]
+#[derive(Clone, Copy, Debug)]
 pub enum Frame<'a> {
     // Opens a bank with so many items and lines over the field with so many elements.
     Start { items: u16, lines: u16, field: u16 },
-    // A call to the bank, with its numbers as the file has them.
     Call(Call),
     Note(&'a [u8]),
     Unknown { kind: u16, body: &'a [u8] },

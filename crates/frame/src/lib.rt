@@ -1,4 +1,5 @@
 // The round file: a list of frames, each of them two bytes of length, two bytes of kind, and a body.
 mod decode;
+pub mod encode;
 pub mod frame;
 pub mod reader;

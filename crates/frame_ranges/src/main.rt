@@ -1,11 +1,10 @@
 // Reads whole ranges of files, and prints what came of each: the compiled reader, where the proofs speak of its source.
-use call::Call;
 use fault::fault::FileFault;
-use frame::frame::Frame;
+use frame::encode::{WriteFault, encode};
+use frame::frame::{Call, Frame};
 use frame::reader::Reader;
-use frame_writing::{WriteFault, encode};
 use std::alloc::{AllocError, Global};
-use std::{fmt, io};
+use std::fmt;
 
 // How many frames of each sort came.
 #[derive(Clone, Copy)]
@@ -122,24 +121,20 @@ fn cuts(heap: Global) -> Result<Tally, WriteFault> {
     Ok(tally)
 }
 
-fn show(rt: &HostRuntime, files: &str, tally: Tally) -> io::Result<()> {
-    println!(rt; "{files}: {tally}")
-}
-
 fn run(rt: &HostRuntime) -> anyhow::Result<()> {
-    show(rt, "each kind, no body", kinds(0))?;
-    show(rt, "each kind, six bytes of body", kinds(6))?;
-    show(rt, "post with each length of body", lengths(rt.alloc(), 2)?)?;
-    show(rt, "note with each length of body", lengths(rt.alloc(), 9)?)?;
-    show(
-        rt,
-        "kind 10 with each length of body",
-        lengths(rt.alloc(), 10)?,
-    )?;
+    let empty = kinds(0);
+    println!(rt; "each kind, no body: {empty}")?;
+    let six = kinds(6);
+    println!(rt; "each kind, six bytes of body: {six}")?;
+    let posts = lengths(rt.alloc(), 2)?;
+    println!(rt; "post with each length of body: {posts}")?;
+    let notes = lengths(rt.alloc(), 9)?;
+    println!(rt; "note with each length of body: {notes}")?;
+    let others = lengths(rt.alloc(), 10)?;
+    println!(rt; "kind 10 with each length of body: {others}")?;
     match cuts(rt.alloc()) {
-        Ok(tally) => show(rt, "six frames, cut after each byte", tally)?,
-        Err(WriteFault::Improper) => println!(rt; "no file can hold these frames")?,
-        Err(WriteFault::Memory) => println!(rt; "no memory for these frames")?,
+        Ok(tally) => println!(rt; "six frames, cut after each byte: {tally}")?,
+        Err(fault) => println!(rt; "not written: {fault:?}")?,
     }
     Ok(())
 }

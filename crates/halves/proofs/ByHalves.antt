@@ -1,5 +1,5 @@
 -- The sums t0 to t3 by halves are the sums of d·w^l, by induction on the exponent. Assumes nothing.
-use Rattle.std.proofs.Common.{◌≡◌, ℕ, zero, suc, ◌+◌, ◌*◌, ◌^◌, ◌<◌, ◌≤◌, [], ◌∷◌, sym, ap, ◌∙◌, ap₂, arith}
+use Rattle.std.proofs.Common.{◌≡◌, ℕ, zero, suc, ◌+◌, ◌*◌, ◌^◌, ◌<◌, ◌≤◌, [], ◌∷◌, sym, refl, ap, ◌∙◌, ap₂, arith, pow_mono}
 use lib.Bits.{bit_xor, xor_shifted}
 use lib.Pow.{pow-lt}
 use Rattle.ring2.proofs.Laws.{times_zero, zero_plus}
@@ -59,9 +59,9 @@ module _ {K : Type 0} (s : Structure K) where
       (λ i b. ap (λ x. (extend s).times (f (2 ^ m + i)) (power (extend s) x l)) (upper_point m i h b)))
 
   pub halves0 : (m : ℕ) (f : ℕ → Ext K) → m ≤ s.bits → t0 s m f ≡ moment s 0 (2 ^ m) f
-  halves0 zero f h = run_word (extend s).plus none f ∙ sym (first_term (λ i. (extend s).times (f i) (extend s).one) ∙ (extend s).ring.times_one (f 0))
+  halves0 zero f h = run_word (extend s) none f ∙ sym (first_term (λ i. (extend s).times (f i) (extend s).one) ∙ (extend s).ring.times_one (f 0))
   halves0 (suc m) f h =
-      none_step (extend s).plus m f ∙ ap₂ (extend s).plus (halves0 m f (omega arith)) (halves0 m (upper m f) (omega arith)) ∙ sym (moment_step 0 m f h)
+      none_step (extend s) m f ∙ ap₂ (extend s).plus (halves0 m f (omega arith)) (halves0 m (upper m f) (omega arith)) ∙ sym (moment_step 0 m f h)
 
   -- a sum over no bits is zero, and so is d·w^l of item 0
   none_first : (f : ℕ → Ext K) (x : Ext K) → (extend s).zero ≡ (extend s).times (f 0) ((extend s).times x (point_of 0))
@@ -70,7 +70,7 @@ module _ {K : Type 0} (s : Structure K) where
 
   singles_first : (c : ℕ → K) (l : ℕ) (f : ℕ → Ext K) → singles s c 0 f ≡ moment s (suc l) (2 ^ 0) f
   singles_first c l f =
-      total_none (extend s) (λ j. (extend s).times (run (extend s).plus (one j) 0 f) (embed s (c j)))
+      total_none (extend s) (λ j. (extend s).times (run (extend s) (one j) 0 f) (embed s (c j)))
       ∙ none_first f (power (extend s) (point_of 0) l) ∙ sym (first_term (λ i. (extend s).times (f i) (power (extend s) (point_of i) (suc l))))
 
   pub halves1 : (m : ℕ) (f : ℕ → Ext K) → m ≤ s.bits → t1 s m f ≡ moment s 1 (2 ^ m) f
@@ -120,7 +120,7 @@ module _ {K : Type 0} (s : Structure K) where
 
   pub halves3 : (m : ℕ) (f : ℕ → Ext K) → m ≤ s.bits → t3 s m f ≡ moment s 3 (2 ^ m) f
   halves3 zero f h =
-      ap ((extend s).plus (singles s (bit3 s) 0 f)) (total_none (extend s) (λ k. total (extend s) (λ j. (extend s).times (run (extend s).plus (two j k) 0 f) (embed s (mixed s j k))) k))
+      ap ((extend s).plus (singles s (bit3 s) 0 f)) (total_none (extend s) (λ k. total (extend s) (λ j. (extend s).times (run (extend s) (two j k) 0 f) (embed s (mixed s j k))) k))
       ∙ (extend s).ring.plus_zero (singles s (bit3 s) 0 f) ∙ singles_first (bit3 s) 2 f
   halves3 (suc m) f h =
       let g : ℕ → Ext K = upper m f in
@@ -136,7 +136,7 @@ module _ {K : Type 0} (s : Structure K) where
       (singles_step (extend s) (λ j. embed s (bit3 s j)) m f ∙ ap ((extend s).plus ((extend s).plus a b)) (ap₂ (extend s).times (halves0 m g (omega arith)) (cube m)))
       (pairs_step (extend s) (λ j k. embed s (mixed s j k)) m f
       ∙ ap ((extend s).plus ((extend s).plus p q))
-      (mixed_row m (λ j. run (extend s).plus (one j) m g)
+      (mixed_row m (λ j. run (extend s) (one j) m g)
       ∙ ap₂ (λ x y. (extend s).plus ((extend s).times v x) ((extend s).times ((extend s).times v v) y)) (halves2 m g (omega arith)) (halves1 m g (omega arith))))
       ∙ solve (extend s).ring (a ∷ b ∷ p ∷ q ∷ z ∷ o ∷ w ∷ v ∷ [])
       ((var 0 ⊕ var 1 ⊕ var 4 ⊗ (var 7 ⊗ var 7 ⊗ var 7)) ⊕ (var 2 ⊕ var 3 ⊕ (var 7 ⊗ var 6 ⊕ var 7 ⊗ var 7 ⊗ var 5)))

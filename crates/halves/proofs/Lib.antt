@@ -2,4 +2,3 @@ pub mod Halving
 pub mod Shifting
 pub mod ByHalves
 pub mod Checks
-pub mod Gathering

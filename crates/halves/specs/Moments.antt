@@ -1,5 +1,5 @@
 -- The sums t0 to t3 of a run by halves, and the check words that they give. Assumes nothing.
-use Rattle.std.specs.Prelude.{ℕ, ◌^◌, List, slice_index}
+use Rattle.std.specs.Prelude.{ℕ, ◌+◌, ◌^◌, List, length, slice_index}
 use Rattle.field.specs.Structure.{Structure}
 use Rattle.extension.specs.declared.ext.Ext.{Ext}
 use Rattle.extension.specs.Formulas.{embed, root_u}
@@ -24,15 +24,15 @@ module _ {K : Type 0} (s : Structure K) where
 
   -- the sum over all bits j of R(j) by a factor, and over all pairs j < k of R(j, k) by a factor
   abbrev pub singles : (ℕ → K) → ℕ → (ℕ → Ext K) → Ext K
-  singles c m f = total (extend s) (λ j. (extend s).times (run (extend s).plus (one j) m f) (embed s (c j))) m
+  singles c m f = total (extend s) (λ j. (extend s).times (run (extend s) (one j) m f) (embed s (c j))) m
 
   abbrev pub pairs : (ℕ → ℕ → K) → ℕ → (ℕ → Ext K) → Ext K
   pairs c m f =
-      total (extend s) (λ k. total (extend s) (λ j. (extend s).times (run (extend s).plus (two j k) m f) (embed s (c j k))) k) m
+      total (extend s) (λ k. total (extend s) (λ j. (extend s).times (run (extend s) (two j k) m f) (embed s (c j k))) k) m
 
   -- t0 = R(none), t1 = Σ v_j·R(j), t2 = Σ v_j²·R(j), t3 = Σ v_j³·R(j) + Σ (v_j²·v_k + v_j·v_k²)·R(j, k)
   abbrev pub t0 : ℕ → (ℕ → Ext K) → Ext K
-  t0 m f = run (extend s).plus none m f
+  t0 m f = run (extend s) none m f
 
   abbrev pub t1 : ℕ → (ℕ → Ext K) → Ext K
   t1 m f = singles bit m f

@@ -1,5 +1,3 @@
 pub mod Words
 pub mod Running
 pub mod Parts
-pub mod Halfway
-pub mod Filled

@@ -1,5 +1,5 @@
 pub mod Answers
 pub mod Sums
+pub mod Sets
 pub mod ByHalves
-pub mod Prepared
 pub mod Worked

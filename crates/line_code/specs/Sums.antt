@@ -1,15 +1,11 @@
 -- The four sums that make a line's check words, and one item's share in them. Assumes nothing.
-use Rattle.std.specs.Prelude.{ℕ, ◌^◌, ◌<◌, List, ◌∷◌, length, drop, slice_index}
+use Rattle.std.specs.Prelude.{ℕ, ◌<◌, List, ◌∷◌, length, drop, slice_index}
 use Rattle.field.specs.Structure.{Structure, size}
 use Rattle.extension.specs.declared.ext.Ext.{Ext}
 use Rattle.extension.specs.Extend.{extend}
 use Rattle.codeword.specs.Sums.{total, power}
 use Rattle.codeword.specs.Codeword.{element, point, check}
 use Rattle.line_code.specs.declared.sums.Sums.{Sums}
-
--- every word has at most b bits
-abbrev pub Below : ℕ → List ℕ → Type 0
-Below b words = (i : ℕ) → slice_index words i < 2 ^ b
 
 module _ {K : Type 0} (s : Structure K) where
   -- the terms of check word l: item i adds d·h^l

@@ -1,5 +1,5 @@
 // Which lines are encoded, and the refusals of the others in their order.
-ghost use Rattle.std.specs.Prelude.{◌≡◌};
+ghost use Rattle.std.specs.Prelude.{◌≡◌, length};
 ghost use Rattle.line_code.specs.Answers.{words_answer, encode_answer};
 
 use extension::Ext;

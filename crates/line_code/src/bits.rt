@@ -1,5 +1,26 @@
-// Bits of item numbers: how many a line needs.
+// Bits of item numbers: sets of at most two, and how many a line needs.
 ghost use Rattle.std.specs.Prelude.{◌≡◌, ℕ, ◌^◌, ◌<◌, ◌≤◌};
+ghost use Rattle.line_code.specs.Sets.{holds};
+
+// A set of at most two bit positions.
+#[derive(Clone, Copy)]
+pub(crate) enum BitSet {
+    Empty,
+    One(u32),
+    Two(u32, u32),
+}
+
+impl BitSet {
+    pub(crate) fn holds(self, bit: u32) -> bool
+        ensures { result ≡ holds self bit }
+    {
+        match self {
+            BitSet::Empty => false,
+            BitSet::One(j) => bit == j,
+            BitSet::Two(j, k) => bit == j || bit == k,
+        }
+    }
+}
 
 // How many items have numbers of so many bits.
 pub(crate) fn run_length(bits: u32) -> usize

@@ -5,7 +5,7 @@ use Rattle.fault.specs.declared.fault.FileFault.{FileFault}
 use Rattle.frame.specs.declared.frame.Frame.{Frame}
 use Rattle.frame.specs.declared.reader.Reader.{Reader}
 use Rattle.frame.specs.Reading.{Answer, told, Steps, bytes_left}
-use Rattle.frame_writing.proofs.Laws.{Bytes, Sofar, sofar_more, sofar_end}
+use Rattle.frame.proofs.Laws.{Bytes, Sofar, sofar_more, sofar_end}
 use Rattle.listing.specs.Lines.{line_text, lines_from, Listed}
 
 -- After so many frames: their answers, and the text of their lines.

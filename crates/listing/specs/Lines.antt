@@ -3,8 +3,8 @@ use Rattle.std.specs.Prelude.{◌≡◌, ℕ, ◌+◌, List, [], ◌∷◌, ◌+
 use Rattle.fault.specs.Table.{row, printed}
 use Rattle.fault.specs.declared.fault.Fault.TheVariants.{File}
 use Rattle.frame.specs.Reading.{Answer}
-use Rattle.frame_writing.specs.Laid.{Answered}
-use Rattle.frame_text.specs.Text.{says}
+use Rattle.frame.specs.Laid.{Answered}
+use Rattle.listing.specs.Text.{says}
 
 -- What the frame says, or `no` and the refusal.
 abbrev pub answer_text : Answer → List ℕ

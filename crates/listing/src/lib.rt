@@ -3,12 +3,14 @@ ghost use Rattle.std.specs.Prelude.{◌≡◌, IfOk, Some, string_bytes};
 ghost use Rattle.frame.specs.Reading.{told};
 ghost use Rattle.listing.specs.Lines.{line_text, Listed};
 
+use crate::text::FrameText;
 use fault::fault::{Fault, FileFault};
 use frame::frame::Frame;
 use frame::reader::Reader;
-use frame_text::FrameText;
 use std::alloc::{AllocError, Global};
 use std::fmt;
+
+pub mod text;
 
 // The line of one frame.
 #[derive(Clone, Copy)]

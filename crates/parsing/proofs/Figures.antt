@@ -7,7 +7,7 @@ use Rattle.std.proofs.lemmas.Bool.Decides.{nat_tests}
 use Rattle.std.specs.Str.Parse.{digits_value}
 use Rattle.std.specs.Char.{digit_value}
 use Rattle.std.specs.Option.{option_map}
-use Rattle.frame_text.specs.Text.{pair_text, three_text}
+use Rattle.listing.specs.Text.{pair_text, three_text}
 use Rattle.parsing.specs.Numbers.{Settles, seen, numeral, Field, One, Two, Three}
 use Rattle.parsing.specs.Splits.{front_of, back_of, behind, within}
 use Rattle.parsing.proofs.Parting.{clear, parts_whole, front_clear, back_clear, within_first}

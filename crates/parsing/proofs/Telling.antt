@@ -4,7 +4,7 @@ use Rattle.std.proofs.lemmas.Bool.Decides.{nat_tests}
 use Rattle.call.specs.declared.Call.{Call}
 use Rattle.call.specs.declared.Call.TheVariants as call
 use Rattle.frame.specs.Format.{Content, start, call, note, unknown}
-use Rattle.frame_text.specs.Text.{visible, pair_text, three_text, says}
+use Rattle.listing.specs.Text.{visible, pair_text, three_text, says}
 use Rattle.parsing.specs.declared.name.Name.{Name}
 use Rattle.parsing.specs.declared.name.Name.TheVariants.{Start, Post, Get, Off, On, Release, Seat, Mend, Note}
 use Rattle.parsing.specs.Line.{NoteText, Sayable, Says, Noted}

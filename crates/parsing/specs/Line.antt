@@ -2,7 +2,7 @@
 use Rattle.std.specs.Prelude.{◌≡◌, ℕ, ◌<◌, ◌≤◌, true, List, length, Some, Option}
 use Rattle.call.specs.declared.Call.TheVariants.{Post, Get, Off, On, Release, Seat, Mend}
 use Rattle.frame.specs.Format.{Content, start, call, note, unknown}
-use Rattle.frame_text.specs.Text.{says}
+use Rattle.listing.specs.Text.{says}
 use Rattle.parsing.specs.Splits.{within}
 
 -- The text of a note: 1 to 60 characters from 32 to 126.

@@ -1,6 +1,6 @@
 -- The numbers of a line. Assumes nothing.
 use Rattle.std.specs.Prelude.{◌≡◌, ℕ, ◌<◌, ◌≤◌, Bool, not, ◌&&◌, ◌||◌, List, length, Some, Ok, Err, decimal, Option, Result, ◌==◌, nat_lt, slice_index}
-use Rattle.frame_text.specs.Text.{pair_text, three_text}
+use Rattle.listing.specs.Text.{pair_text, three_text}
 use Rattle.parsing.specs.Splits.{within}
 
 -- The result is a value of which P holds, or there is no such value.

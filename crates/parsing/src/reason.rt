@@ -1,6 +1,6 @@
 // Why a line says no frame.
 use crate::name::Name;
-use frame_text::Printable;
+use listing::text::Printable;
 use std::fmt;
 
 #[derive(Clone, Copy)]

@@ -2,8 +2,8 @@
 use Rattle.std.proofs.Common.{◌≡◌, ℕ, List, [], ◌++◌, drop, sym, refl, ap, ◌∙◌, subst, subst₂}
 use Rattle.call.specs.declared.Call.{Call}
 use Rattle.frame.specs.Reading.{told}
-use Rattle.frame_writing.specs.Laid.{Laid}
-use Rattle.frame_writing.proofs.Laws.{laid_same}
+use Rattle.frame.specs.Laid.{Laid}
+use Rattle.frame.proofs.Laws.{laid_same}
 use Rattle.replies.specs.Lines.{Said, line, lines_from}
 use Rattle.round.specs.declared.rounds.Round.{Round}
 use Rattle.round.specs.declared.rounds.Placed.{Placed}

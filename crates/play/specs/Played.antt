@@ -2,7 +2,7 @@
 use Rattle.std.specs.Prelude.{◌≡◌, ℕ, List, ◌++◌, Some, None, Option}
 use Rattle.call.specs.declared.Call.{Call}
 use Rattle.frame.specs.Reading.{Answer as Heard}
-use Rattle.frame_writing.specs.Laid.{Answered}
+use Rattle.frame.specs.Laid.{Answered}
 use Rattle.replies.specs.declared.Reply.{Reply}
 use Rattle.replies.specs.Lines.{Said, said, line, lines_from}
 use Rattle.round.specs.declared.rounds.Round.{Round}

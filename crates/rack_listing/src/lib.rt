@@ -8,7 +8,7 @@ use rack::sides::Reading;
 use std::alloc::{AllocFailed, Global};
 
 // Why a line cannot be listed: the rack refuses it, or there is no memory for the listing.
-#[derive(Clone, Copy)]
+#[derive(Clone, Copy, PartialEq, Eq, Debug)]
 pub enum ListFault {
     Rack(RackFault),
     NoMemory,

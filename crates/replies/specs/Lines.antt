@@ -2,7 +2,7 @@
 use Rattle.std.specs.Prelude.{ℕ, ◌+◌, List, [], ◌∷◌, ◌++◌, map, codes, decimal}
 use Rattle.fault.specs.Table.{row, printed}
 use Rattle.fault.specs.declared.fault.Fault.{Fault}
-use Rattle.frame_text.specs.Text.{visible}
+use Rattle.listing.specs.Text.{visible}
 use Rattle.replies.specs.declared.Reply.{Reply}
 use Rattle.replies.specs.declared.Reply.TheVariants.{Done, Word, Note, Skip, Refused}
 

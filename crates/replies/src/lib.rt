@@ -3,7 +3,7 @@ ghost use Rattle.std.specs.Prelude.{◌≡◌, ◌++◌, Some, string_bytes, OnO
 ghost use Rattle.replies.specs.Lines.{said, said_text, line as Line-of};
 
 use fault::fault::Fault;
-use frame_text::Printable;
+use listing::text::Printable;
 use std::alloc::{AllocError, Global};
 use std::fmt;
 

@@ -2,7 +2,7 @@
 use Rattle.std.proofs.Common.{◌≡◌, ℕ, ◌+◌, ◌⊎◌, List, [], ◌∷◌, ◌++◌, sym, refl, ap, ◌∙◌, subst, subst₂, inl, inr, append_assoc, append-nil}
 use Rattle.call.specs.declared.Call.{Call}
 use Rattle.frame.specs.Reading.{Answer as Heard, told, bytes_left}
-use Rattle.frame_writing.proofs.Laws.{laid_none}
+use Rattle.frame.proofs.Laws.{laid_none}
 use Rattle.replies.specs.Lines.{Said, line, lines_from}
 use Rattle.round.specs.declared.rounds.Round.{Round}
 use Rattle.round.specs.declared.rounds.Placed.{Placed}

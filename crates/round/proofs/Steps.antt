@@ -7,8 +7,8 @@ use Rattle.frame.specs.declared.reader.Reader.{Reader}
 use Rattle.frame.specs.Format.{Whole, number, front, size}
 use Rattle.frame.specs.Reading.{Answer as Heard, Step, step, taken, told, Steps, file_of, bytes_left}
 use Rattle.frame.proofs.Fronts.{chosen, front_fits}
-use Rattle.frame_writing.specs.Laid.{Laid, ended}
-use Rattle.frame_writing.proofs.Laws.{Bytes, step_laid, step_ended}
+use Rattle.frame.specs.Laid.{Laid, ended}
+use Rattle.frame.proofs.Laws.{Bytes, step_laid, step_ended}
 use Rattle.round.specs.Replies.{end_of}
 
 -- The length of a body is what the first two bytes say.

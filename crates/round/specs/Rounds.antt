@@ -2,7 +2,7 @@
 use Rattle.std.specs.Prelude.{◌≡◌, ℕ, ◌+◌, ◌<◌, ◌⊎◌, List, [], ◌∷◌, ◌++◌, length, Some, None, Option}
 use Rattle.call.specs.declared.Call.{Call}
 use Rattle.frame.specs.Reading.{Answer as Heard, told, file_of, bytes_left}
-use Rattle.frame_writing.specs.Laid.{Laid}
+use Rattle.frame.specs.Laid.{Laid}
 use Rattle.round.specs.declared.rounds.Round.{Round}
 use Rattle.round.specs.declared.rounds.Placed.{Placed}
 use Rattle.replies.specs.Lines.{lines_from}

@@ -1,5 +1,5 @@
 use Rattle.std.proofs.Common.{◌≡◌, length, string_bytes}
-use Rattle.frame_writing.proofs.Laws.{Sofar}
+use Rattle.frame.proofs.Laws.{Sofar}
 use Rattle.listing.specs.Lines.{lines_from}
 use Rattle.listing.proofs.Turns.{Turn}
 use Rattle.listing.proofs.list.Given as goal

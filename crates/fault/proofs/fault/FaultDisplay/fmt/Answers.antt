@@ -13,4 +13,4 @@ returns-clause-writes g c plain ok =
     ap encode (c.letter-letter.ensures.value ∙ ap letter_of c.layer.ensures) ∙ one_byte l in
     let number = c.number-number.ensures in
     let place = c.place-place.ensures in
-    has_written_of_eq _ _ _ _ _ (λ i. letter i ++ (codes " " ++ (decimal (number i) ++ (codes " " ++ decimal (place i))))) (c.write.ensures.shows plain ok)
+    has_written_of_eq _ _ _ _ _ (λ i. letter i ++ (codes " " ++ (decimal (number i) ++ (codes " " ++ decimal (place i))))) (c.write.ensures.writes plain ok)
