@@ -1,4 +1,6 @@
 // The bank: one book on one rack, call by call, and the theorem that holds of every run.
+#![tactic(auto)]
+
 mod drawers;
 mod runs;
 mod turns;

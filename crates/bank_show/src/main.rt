@@ -1,4 +1,6 @@
 // The worked run of a bank, and the limits of its sizes, words and absent bays.
+#![tactic(auto)]
+
 mod limits;
 mod show;
 mod worked;

@@ -1,4 +1,6 @@
 // The calls to a bank, with the numbers that they are made with.
+#![tactic(auto)]
+
 #[derive(Clone, Copy, PartialEq, Eq, Debug)]
 pub enum Call {
     Post { item: u16, line: u16, word: u16 },

@@ -1,4 +1,6 @@
 // Makes the round that is written as text on standard input into a round file on standard output.
+#![tactic(auto)]
+
 use anyhow::anyhow;
 use std::io::{Read, Write};
 

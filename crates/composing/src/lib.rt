@@ -1,4 +1,6 @@
 // A round that is written as text, a call to a line, made into the bytes of a round file.
+#![tactic(auto)]
+
 ghost use Rattle.std.specs.Prelude.{◌≡◌};
 ghost use Rattle.composing.specs.Composed.{silent, Answers};
 ghost use Rattle.composing.specs.declared.ComposeError.TheVariants.{Memory};

@@ -1,4 +1,6 @@
 // The distance of the line code: any n of the n + 4 words of a line fix it. Each theorem is the contract of a function.
+#![tactic(auto)]
+
 ghost use Rattle.codeword.specs.Codeword.{Distance};
 ghost use Rattle.distance.specs.Theorems.{BySyndromes, Independent};
 

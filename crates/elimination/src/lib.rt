@@ -1,4 +1,6 @@
 // Solving four linear equations in at most four unknowns over any field, by elimination.
+#![tactic(auto)]
+
 mod four;
 mod system;
 

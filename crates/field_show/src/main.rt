@@ -1,4 +1,6 @@
 // Prints a product and an inverse in each field.
+#![tactic(auto)]
+
 use extension::{Ext, Gf16, Gf256, Gf65536};
 use fault::fault::Fault;
 use field::{BaseField, Field, Gf4};

@@ -1,4 +1,6 @@
 // Reads whole ranges of files, and prints what came of each: the compiled reader, where the proofs speak of its source.
+#![tactic(auto)]
+
 use fault::fault::FileFault;
 use frame::encode::{WriteFault, encode};
 use frame::frame::{Call, Frame};

@@ -1,4 +1,5 @@
 // Lists the frames of the round file on standard input.
+#![tactic(auto)]
 
 fn run(rt: &HostRuntime) -> anyhow::Result<()> {
     let file = input::read_round(rt.alloc(), rt.stdin())?;

@@ -1,4 +1,5 @@
 // Plays the round file on standard input, and prints a line for each frame.
+#![tactic(auto)]
 
 fn run(rt: &HostRuntime) -> anyhow::Result<()> {
     let file = input::read_round(rt.alloc(), rt.stdin())?;

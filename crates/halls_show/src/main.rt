@@ -1,4 +1,6 @@
 // Larger halls that lose four bays, and lines whose check words another program worked out.
+#![tactic(auto)]
+
 mod halls;
 mod strike;
 mod vectors;

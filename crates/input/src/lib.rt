@@ -1,4 +1,6 @@
 // The round file of a program: what stands on its standard input, up to a limit.
+#![tactic(auto)]
+
 ghost use Rattle.std.specs.Prelude.{◌≤◌, IfOk, vec_len};
 
 use std::alloc::Global;

@@ -1,4 +1,6 @@
 // The joined rack: two racks of any make side by side.
+#![tactic(auto)]
+
 mod find;
 pub mod make;
 pub mod pair;

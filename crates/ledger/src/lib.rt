@@ -1,4 +1,6 @@
 // The ledger: what a bank's calls come to, told by the calls alone (specs/), and the laws of whole runs.
+#![tactic(auto)]
+
 use fault::fault::Fault;
 
 // What a call to a bank is answered.

@@ -1,4 +1,6 @@
 // The line code: the four check words of a line of counts.
+#![tactic(auto)]
+
 mod admit;
 mod bits;
 mod halving;

@@ -1,5 +1,7 @@
 // Prints the codeword of a line, strikes out sets of bays, and counts how often the line comes back whole.
 // Its arguments are the number of elements of the base field, 4, 16 or 256, and the items of the line.
+#![tactic(auto)]
+
 mod strike;
 
 use crate::strike::{Tally, most_absent, strike_out};

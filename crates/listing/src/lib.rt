@@ -1,4 +1,6 @@
 // A round file as text: a line for each frame, with its number and what it says.
+#![tactic(auto)]
+
 ghost use Rattle.std.specs.Prelude.{◌≡◌, IfOk, Some, string_bytes};
 ghost use Rattle.frame.specs.Reading.{told};
 ghost use Rattle.listing.specs.Lines.{line_text, Listed};

@@ -1,4 +1,6 @@
 // A line of a round that is written as text, and the frame that it says.
+#![tactic(auto)]
+
 pub mod name;
 mod number;
 pub mod parse;

@@ -1,4 +1,6 @@
 // The plain rack, whose words lie in memory.
+#![tactic(auto)]
+
 mod cells;
 pub mod make;
 pub mod parts;

@@ -1,4 +1,6 @@
 // Playing a round file from its first frame to its last.
+#![tactic(auto)]
+
 ghost use Rattle.std.specs.Prelude.{◌≡◌, IfOk, None, string_bytes, MatchResult};
 ghost use Rattle.frame.specs.Reading.{told};
 ghost use Rattle.replies.specs.Lines.{done};

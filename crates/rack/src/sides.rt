@@ -36,23 +36,23 @@ pub trait Reading {
 pub trait Serving: Reading {
     // Sets the word of a bay and a line.
     fn write(&mut self, bay: usize, line: usize, word: u16) -> Result<(), RackFault>
-        ensures answer { result ≡ write_answer (meaning self.old) bay line }
-        ensures after { meaning self.new ≡ write_after (meaning self.old) bay line word };
+        ensures answer { result ≡ write_answer (Self.Reading.meaning self.old) bay line }
+        ensures after { Self.Reading.meaning self.new ≡ write_after (Self.Reading.meaning self.old) bay line word };
 
     // Sets the bay's switch off. The bay keeps its words.
     fn off(&mut self, bay: usize) -> Result<(), RackFault>
-        ensures answer { result ≡ switch_answer (meaning self.old) bay }
-        ensures after { meaning self.new ≡ switch_after (meaning self.old) bay false };
+        ensures answer { result ≡ switch_answer (Self.Reading.meaning self.old) bay }
+        ensures after { Self.Reading.meaning self.new ≡ switch_after (Self.Reading.meaning self.old) bay false };
 
     // Sets the bay's switch on. The bay holds what it held.
     fn on(&mut self, bay: usize) -> Result<(), RackFault>
-        ensures answer { result ≡ switch_answer (meaning self.old) bay }
-        ensures after { meaning self.new ≡ switch_after (meaning self.old) bay true };
+        ensures answer { result ≡ switch_answer (Self.Reading.meaning self.old) bay }
+        ensures after { Self.Reading.meaning self.new ≡ switch_after (Self.Reading.meaning self.old) bay true };
 
     // Puts another controller into the bay and switches it on. The words that it comes with are not fixed: they are
     // those that the rack means after the call, each of 16 bits.
     fn exchange(&mut self, bay: usize) -> Result<(), RackFault>
-        ensures answer { result ≡ switch_answer (meaning self.old) bay }
-        ensures ranges { InRange (meaning self.new) }
-        ensures after { meaning self.new ≡ exchange_after (meaning self.old) bay ((meaning self.new).word bay) };
+        ensures answer { result ≡ switch_answer (Self.Reading.meaning self.old) bay }
+        ensures ranges { InRange (Self.Reading.meaning self.new) }
+        ensures after { Self.Reading.meaning self.new ≡ exchange_after (Self.Reading.meaning self.old) bay ((Self.Reading.meaning self.new).word bay) };
 }

@@ -1,4 +1,6 @@
 // A listing of a line, over the reading side of a rack of any make.
+#![tactic(auto)]
+
 ghost use Rattle.std.specs.Prelude.{◌≡◌};
 ghost use Rattle.rack_listing.specs.declared.ListFault.TheVariants.{Rack, NoMemory};
 ghost use Rattle.rack_listing.specs.Listing.{entry_answer, Listed};

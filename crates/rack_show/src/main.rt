@@ -1,4 +1,6 @@
 // Three plain racks joined into one, served, and listed line by line.
+#![tactic(auto)]
+
 mod hall;
 mod show;
 

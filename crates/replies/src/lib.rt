@@ -1,4 +1,6 @@
 // What is replied to a frame of a round file, and its line of text.
+#![tactic(auto)]
+
 ghost use Rattle.std.specs.Prelude.{◌≡◌, ◌++◌, Some, string_bytes, OnOk};
 ghost use Rattle.replies.specs.Lines.{said, said_text, line as Line-of};
 

@@ -1,4 +1,6 @@
 // Restoring a line from the words of any N of its N + 4 bays.
+#![tactic(auto)]
+
 mod bays;
 mod refusals;
 mod restoring;

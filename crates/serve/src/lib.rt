@@ -1,4 +1,6 @@
 // Serving a round: a hall's racks and its bank from an accepted start on.
+#![tactic(auto)]
+
 mod halls;
 mod serving;
 

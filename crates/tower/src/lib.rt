@@ -1,4 +1,6 @@
 // Products and inverses of numbers in any field, and Cantor's tower as theorems of the fields: each is the contract of a function.
+#![tactic(auto)]
+
 ghost use Rattle.std.specs.Prelude.{◌≡◌, ℕ, ◌^◌};
 ghost use Rattle.field.specs.Structure.{size};
 ghost use Rattle.field.specs.Numbers.{product as product-of};

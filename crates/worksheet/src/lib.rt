@@ -1,4 +1,6 @@
 // The line of a rack, restored from its present bays onto a worksheet.
+#![tactic(auto)]
+
 mod looking;
 mod restoring;
 

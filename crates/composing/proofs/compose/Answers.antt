@@ -8,21 +8,21 @@ use Rattle.composing.proofs.compose.Goals as goal
 pub loop-rest-init : goal.loop-rest-init
 loop-rest-init c = turn_none _ _ c.new-file.ensures.items
 
-pub loop-rest-smaller-then-is-silent : goal.loop-rest-smaller-then-is-silent
-loop-rest-smaller-then-is-silent c = shrinks c.loop-rest.invariant _ _ _ (ap (option_map (λ x. x.now)) c.in-Some.is) c.split.ensures.front c.split.ensures.back
+pub loop-rest-smaller-then-is_silent : goal.loop-rest-smaller-then-is_silent
+loop-rest-smaller-then-is_silent c = shrinks c.loop-rest.invariant _ _ _ (ap (option_map (λ x. x.now)) c.in-Some.is) c.split.ensures.front c.split.ensures.back
 
-pub loop-rest-preserved-then-is-silent : goal.loop-rest-preserved-then-is-silent
-loop-rest-preserved-then-is-silent c =
+pub loop-rest-preserved-then-is_silent : goal.loop-rest-preserved-then-is_silent
+loop-rest-preserved-then-is_silent c =
     turn_quiet c.loop-rest.invariant _ _ _ (ap (option_map (λ x. x.now)) c.in-Some.is) c.split.ensures.front c.split.ensures.back
-    (sym c.if-is-silent.ensures)
+    (sym c.if-is_silent.ensures)
 
-pub returns-then-len-gt-LONGEST-FILE : goal.returns-then-len-gt-LONGEST-FILE
-returns-then-len-gt-LONGEST-FILE c =
+pub returns-then-len-gt-LONGEST_FILE : goal.returns-then-len-gt-LONGEST_FILE
+returns-then-len-gt-LONGEST_FILE c =
     turn_overlong c.loop-rest.invariant _ _ _ (ap (option_map (λ x. x.now)) c.in-Some.is) c.split.ensures.front c.split.ensures.back
-    (sym c.if-is-silent.ensures) (content c.in-Ok.frame) c.in-Ok.ensures
+    (sym c.if-is_silent.ensures) (content c.in-Ok.frame) c.in-Ok.ensures
     (omega (
       arith,
-      c.if-len-gt-LONGEST-FILE.true,
+      c.if-len-gt-LONGEST_FILE.true,
       c.len.ensures,
       c.len-in-Ok.ensures,
       c.loop-rest.file.ok.0,
@@ -36,13 +36,13 @@ loop-rest-smaller c = shrinks c.loop-rest.invariant _ _ _ (ap (option_map (λ x.
 pub loop-rest-preserved : goal.loop-rest-preserved
 loop-rest-preserved c =
     let bytes = c.in-Ok-encode.ensures.bytes.1 in
-    let file = pushed c.as-slice.result.now refl c.in-ok-extend-from-slice.was c.extend-from-slice.ensures.items
-    ∙ ap (λ (l : List ℕ). vec_items c.loop-rest.file ++ l) (c.as-slice.ensures.value ∙ bytes) in
+    let file = pushed c.as_slice.result.now refl c.in_ok-extend_from_slice.was c.extend_from_slice.ensures.items
+    ∙ ap (λ (l : List ℕ). vec_items c.loop-rest.file ++ l) (c.as_slice.ensures.value ∙ bytes) in
     turn_more c.loop-rest.invariant _ _ _ (ap (option_map (λ x. x.now)) c.in-Some.is) c.split.ensures.front c.split.ensures.back
-    (sym c.if-is-silent.ensures) (content c.in-Ok.frame) _ c.in-Ok.ensures file
+    (sym c.if-is_silent.ensures) (content c.in-Ok.frame) _ c.in-Ok.ensures file
     (omega (
       arith,
-      c.if-len-gt-LONGEST-FILE.false,
+      c.if-len-gt-LONGEST_FILE.false,
       c.len.ensures,
       c.len-in-Ok.ensures,
       c.loop-rest.file.ok.0,
@@ -54,7 +54,7 @@ loop-rest-preserved c =
 pub returns-in-Err : goal.returns-in-Err
 returns-in-Err c =
     turn_bad c.loop-rest.invariant _ _ _ (ap (option_map (λ x. x.now)) c.in-Some.is) c.split.ensures.front c.split.ensures.back
-    (sym c.if-is-silent.ensures) c.in-Err.ensures
+    (sym c.if-is_silent.ensures) c.in-Err.ensures
 
 pub returns : goal.returns
-returns c = turn_end c.loop-rest.invariant (ap (option_map (λ x. x.now)) c.in-default.is)
+returns c = turn_end c.loop-rest.invariant (ap (option_map (λ x. x.now)) c.in_default.is)

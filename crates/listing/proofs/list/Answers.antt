@@ -6,8 +6,8 @@ use Rattle.listing.proofs.list.Goals as goal
 pub loop-answer-preserved : goal.loop-answer-preserved
 loop-answer-preserved c =
     let t = c.next.new.self in
-    let line = c.as-str.ensures.value ∙ c.in-ok-line.ensures.ok in
-    let text = pushed c.as-str.result.now refl c.in-ok-push-str.was c.push-str.ensures.bytes in (
+    let line = c.as_str.ensures.value ∙ c.in_ok-line.ensures.ok in
+    let text = pushed c.as_str.result.now refl c.in_ok-push_str.was c.push_str.ensures.bytes in (
       tt,
       tt,
       turn_more c.loop-answer.invariant.2 t c.next.result c.next.ensures.steps (λ i. omega (arith, c.type-inv.file i)) (c.in-Some.ensures.goes.on tt).2 c.in-Some.answer c.in-Some.is _

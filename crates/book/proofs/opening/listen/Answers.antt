@@ -20,9 +20,9 @@ loop-bay-preserved g c =
     let kept = c.read.ensures.after ∙ same in
     let heard : (b : Bool) → is_err c.read.result ≡ b → m.switch bay ≡ not b =
     λ b e. asked m _ same bay 0 (omega arith) (omega arith) c.read.result c.read.ensures.answer b e in
-    elim c.if-is-err.branch [
-      | then-is-err w ↦ let off : m.switch bay ≡ false = heard true (sym w.if-is-err.ensures.value) in
+    elim c.if-is_err.branch [
+      | then-is-err w ↦ let off : m.switch bay ≡ false = heard true (sym w.if-is_err.ensures.value) in
           (subst₂ (λ (l : List Bool) (n : ℕ). Heard m.switch (bay + 1) l n) (sym w.silent-is) (sym w.count-is) (heard_more m.switch bay _ _ so off (omega arith)), kept)
-      | else-is-err w ↦ let on : m.switch bay ≡ true = heard false (sym w.if-is-err.ensures.value) in
+      | else-is-err w ↦ let on : m.switch bay ≡ true = heard false (sym w.if-is_err.ensures.value) in
           (subst₂ (λ (l : List Bool) (n : ℕ). Heard m.switch (bay + 1) l n) (sym w.silent-is) (sym w.count-is) (heard_skip m.switch bay _ _ so on), kept)
     ]

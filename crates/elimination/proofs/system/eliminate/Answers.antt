@@ -12,23 +12,23 @@ loop-n-init g c =
     let s = g.F.Field.structure in
     (same_self s c.args.unknowns (table s c.args.rows), units_none s (table s c.args.rows))
 
-pub returns-in-err-p : goal.returns-in-err-p
-returns-in-err-p g c =
+pub returns-in_err-p : goal.returns-in_err-p
+returns-in_err-p g c =
     let s = g.F.Field.structure in
     subst (Eliminated s c.args.rows c.args.unknowns) (sym c.from-residual.ensures)
     (dependent s (table s c.args.rows) (table s c.loop-n.rows) c.loop-n.n c.args.unknowns c.requires c.loop-n-test.true
-    c.loop-n.invariant.0 c.loop-n.invariant.1 (λ r h k. c.in-err-p.ensures r (omega arith) k))
+    c.loop-n.invariant.0 c.loop-n.invariant.1 (λ r h k. c.in_err-p.ensures r (omega arith) k))
 
 pub loop-n-preserved : goal.loop-n-preserved
 loop-n-preserved g c =
     let s = g.F.Field.structure in
-    let found = c.in-ok-p.ensures in
+    let found = c.in_ok-p.ensures in
     let near : c.loop-n.n < 4 = omega arith in (
       same_trans s c.args.unknowns (table s c.args.rows) (table s c.loop-n.rows) (table s c.clear-rows.result) c.loop-n.invariant.0
-          (round_same s c.args.unknowns c.loop-n.n c.in-ok-p.p c.requires near found.0 found.1
+          (round_same s c.args.unknowns c.loop-n.n c.in_ok-p.p c.requires near found.0 found.1
           (table s c.loop-n.rows) (table s c.exchange.result) (table s c.scale.result) (table s c.clear-rows.result) found.2
           c.exchange.ensures c.scale.ensures c.clear-rows.ensures),
-      round_units s c.args.unknowns c.loop-n.n c.in-ok-p.p c.requires near found.0 found.1
+      round_units s c.args.unknowns c.loop-n.n c.in_ok-p.p c.requires near found.0 found.1
           (table s c.loop-n.rows) (table s c.exchange.result) (table s c.scale.result) (table s c.clear-rows.result) found.2
           c.exchange.ensures c.scale.ensures c.clear-rows.ensures c.loop-n.invariant.1,
     )

@@ -9,11 +9,11 @@ pub returns-then-unknowns-gt4 : goal.returns-then-unknowns-gt4
 returns-then-unknowns-gt4 g c =
     too_many g.F.Field.structure (coefficient g.F.Field.structure c.args.system) c.args.unknowns c.if-unknowns-gt4.true (λ r k. refl)
 
-pub returns-in-default : goal.returns-in-default
-returns-in-default g c i =
+pub returns-in_default : goal.returns-in_default
+returns-in_default g c i =
     let s = g.F.Field.structure in
     let t = c.args.system in
-    c.in-default.ensures
+    c.in_default.ensures
     (independent_augmented s (coefficient s t) (right s t) (table s t) (table s t) c.args.unknowns c.if-unknowns-gt4.false (augmented s t) i)
 
 pub returns-in-Some-nonzero : goal.returns-in-Some-nonzero

@@ -4,17 +4,17 @@ use Rattle.frame.specs.Format.{content, bytes_of, proper}
 use Rattle.frame.proofs.Laws.{written_back}
 use Rattle.frame.proofs.encode.encode.Goals as goal
 
-pub returns-in-ok-wrap-2 : goal.returns-in-ok-wrap-2
-returns-in-ok-wrap-2 c =
+pub returns-in_ok-wrap-2 : goal.returns-in_ok-wrap-2
+returns-in_ok-wrap-2 c =
     let said = ap content c.in-Note.is in
-    let fine : proper (content c.args.frame) ≡ true = ap proper said ∙ grind (arith, nat_tests, c.if-not-is-empty.ensures) in
-    let same = c.in-ok-wrap-2.ensures ∙ sym (ap bytes_of said) in
+    let fine : proper (content c.args.frame) ≡ true = ap proper said ∙ grind (arith, nat_tests, c.if-not-is_empty.ensures) in
+    let same = c.in_ok-wrap-2.ensures ∙ sym (ap bytes_of said) in
     record { bytes = (fine, same); back = written_back _ _ fine same }
 
-pub returns-in-ok-wrap-3 : goal.returns-in-ok-wrap-3
-returns-in-ok-wrap-3 c =
+pub returns-in_ok-wrap-3 : goal.returns-in_ok-wrap-3
+returns-in_ok-wrap-3 c =
     let said = ap content c.in-Unknown.is in
     let known = c.if-kind-gt-NOTE.either in
     let fine : proper (content c.args.frame) ≡ true = ap proper said ∙ grind (arith, nat_tests) in
-    let same = c.in-ok-wrap-3.ensures ∙ sym (ap bytes_of said) in
+    let same = c.in_ok-wrap-3.ensures ∙ sym (ap bytes_of said) in
     record { bytes = (fine, same); back = written_back _ _ fine same }

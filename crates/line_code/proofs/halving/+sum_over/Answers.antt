@@ -22,18 +22,18 @@ returns-then-exponent-eq0 g t c =
     c.element.ensures ∙ sym (run_word (extend s) (holds c.args.set) (items_of s c.args.words.now))
     ∙ ap (λ n. run (extend s) (holds c.args.set) n (items_of s c.args.words.now)) (sym c.if-exponent-eq0.true)
 
-pub sum-over-above-requires : goal.sum-over-above-requires
-sum-over-above-requires g t c κs =
+pub sum_over-above-requires : goal.sum_over-above-requires
+sum_over-above-requires g t c κs =
     let s = g.F.Field.structure in
-    let cut : c.min-half.result ≡ min (length c.args.words.now) (2 ^ (c.args.exponent - 1)) = c.min-half.ensures ∙ ap (min (length c.args.words.now)) c.run-length.ensures in
-    let k : Small s c.split-at.result.1.now = subst (Small s) (sym c.split-at.ensures.back) (small_upper c.args.words.now (c.args.exponent - 1) c.min-half.result cut s c.requires.1) in
+    let cut : c.min-half.result ≡ min (length c.args.words.now) (2 ^ (c.args.exponent - 1)) = c.min-half.ensures ∙ ap (min (length c.args.words.now)) c.run_length.ensures in
+    let k : Small s c.split_at.result.1.now = subst (Small s) (sym c.split_at.ensures.back) (small_upper c.args.words.now (c.args.exponent - 1) c.min-half.result cut s c.requires.1) in
     λ l. (omega (arith, c.decreases), (l, (omega arith, k)))
 
-pub sum-over-requires : goal.sum-over-requires
-sum-over-requires g t c κs =
+pub sum_over-requires : goal.sum_over-requires
+sum_over-requires g t c κs =
     let s = g.F.Field.structure in
-    let cut : c.min-half.result ≡ min (length c.args.words.now) (2 ^ (c.args.exponent - 1)) = c.min-half.ensures ∙ ap (min (length c.args.words.now)) c.run-length.ensures in
-    let k : Small s c.split-at.result.0.now = subst (Small s) (sym c.split-at.ensures.front) (small_lower c.args.words.now (c.args.exponent - 1) c.min-half.result cut s c.requires.1) in
+    let cut : c.min-half.result ≡ min (length c.args.words.now) (2 ^ (c.args.exponent - 1)) = c.min-half.ensures ∙ ap (min (length c.args.words.now)) c.run_length.ensures in
+    let k : Small s c.split_at.result.0.now = subst (Small s) (sym c.split_at.ensures.front) (small_lower c.args.words.now (c.args.exponent - 1) c.min-half.result cut s c.requires.1) in
     λ l. (omega (arith, c.decreases), (l, (omega arith, k)))
 
 pub returns-then-holds : goal.returns-then-holds
@@ -41,8 +41,8 @@ returns-then-holds g t c =
     let s = g.F.Field.structure in
     let top = c.args.exponent - 1 in
     let e : suc (c.args.exponent - 1) ≡ c.args.exponent = omega (arith, c.if-exponent-eq0.false) in
-    let cut : c.min-half.result ≡ min (length c.args.words.now) (2 ^ (c.args.exponent - 1)) = c.min-half.ensures ∙ ap (min (length c.args.words.now)) c.run-length.ensures in
-    c.sum-over-above.ensures ∙ ap (λ l. run (extend s) (holds c.args.set) (c.args.exponent - 1) (items_of s l)) c.split-at.ensures.back
+    let cut : c.min-half.result ≡ min (length c.args.words.now) (2 ^ (c.args.exponent - 1)) = c.min-half.ensures ∙ ap (min (length c.args.words.now)) c.run_length.ensures in
+    c.sum_over-above.ensures ∙ ap (λ l. run (extend s) (holds c.args.set) (c.args.exponent - 1) (items_of s l)) c.split_at.ensures.back
     ∙ upper_alone c.args.words.now (c.args.exponent - 1) c.min-half.result cut s (holds c.args.set) (sym c.holds.ensures ∙ c.if-holds.true)
     ∙ ap (λ n. run (extend s) (holds c.args.set) n (items_of s c.args.words.now)) e
 
@@ -50,10 +50,10 @@ pub returns-else-holds : goal.returns-else-holds
 returns-else-holds g t c =
     let s = g.F.Field.structure in
     let e : suc (c.args.exponent - 1) ≡ c.args.exponent = omega (arith, c.if-exponent-eq0.false) in
-    let cut : c.min-half.result ≡ min (length c.args.words.now) (2 ^ (c.args.exponent - 1)) = c.min-half.ensures ∙ ap (min (length c.args.words.now)) c.run-length.ensures in
+    let cut : c.min-half.result ≡ min (length c.args.words.now) (2 ^ (c.args.exponent - 1)) = c.min-half.ensures ∙ ap (min (length c.args.words.now)) c.run_length.ensures in
     c.plus.ensures
     ∙ ap₂ (extend s).plus
-    (c.sum-over.ensures ∙ ap (λ l. run (extend s) (holds c.args.set) (c.args.exponent - 1) (items_of s l)) c.split-at.ensures.front)
-    (c.sum-over-above.ensures ∙ ap (λ l. run (extend s) (holds c.args.set) (c.args.exponent - 1) (items_of s l)) c.split-at.ensures.back)
+    (c.sum_over.ensures ∙ ap (λ l. run (extend s) (holds c.args.set) (c.args.exponent - 1) (items_of s l)) c.split_at.ensures.front)
+    (c.sum_over-above.ensures ∙ ap (λ l. run (extend s) (holds c.args.set) (c.args.exponent - 1) (items_of s l)) c.split_at.ensures.back)
     ∙ both_halves c.args.words.now (c.args.exponent - 1) c.min-half.result cut s (holds c.args.set) (sym c.holds.ensures ∙ c.if-holds.false)
     ∙ ap (λ n. run (extend s) (holds c.args.set) n (items_of s c.args.words.now)) e

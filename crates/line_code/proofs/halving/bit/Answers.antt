@@ -7,4 +7,4 @@ use Rattle.line_code.proofs.halving.bit.Goals as goal
 
 pub unwrap-requires : goal.unwrap-requires
 unwrap-requires g c =
-    ap is_ok (c.from-number.ensures ∙ ap (element_answer g.F.Field.structure) c.run-length.ensures ∙ made g.F.Field.structure _ (pow-lt c.requires))
+    ap is_ok (c.from_number.ensures ∙ ap (element_answer g.F.Field.structure) c.run_length.ensures ∙ made g.F.Field.structure _ (pow-lt c.requires))

@@ -16,5 +16,5 @@ loop-j-preserved g c =
     let s = g.F.Field.structure in
     c.plus-sum.ensures
     ∙ ap₂ (extend s).plus c.loop-j.invariant
-    (c.scaled.ensures ∙ ap₂ (λ a b. (extend s).times a (embed s b)) c.sum-over-part.ensures c.mixed.ensures)
+    (c.scaled.ensures ∙ ap₂ (λ a b. (extend s).times a (embed s b)) c.sum_over-part.ensures c.mixed.ensures)
     ∙ sym (total_more (extend s) (pair_term s c.args.words.now c.args.exponent c.args.k) c.loop-j.j)

@@ -20,7 +20,7 @@ loop-k-init g c =
 pub loop-k-preserved : goal.loop-k-preserved
 loop-k-preserved g c =
     let s = g.F.Field.structure in
-    let part = c.sum-over.ensures in
+    let part = c.sum_over.ensures in
     let share = c.shares-share.ensures ∙ ap (λ x. shares_of s x c.loop-k.k) part in (
       c.plus-first.ensures ∙ ap₂ (extend s).plus c.loop-k.invariant.0 (ap (λ x. x.first) share)
           ∙ sym (total_more (extend s) (single s (bit s) c.args.words.now c.args.exponent) c.loop-k.k),
@@ -28,7 +28,7 @@ loop-k-preserved g c =
           ∙ sym (total_more (extend s) (single s (bit2 s) c.args.words.now c.args.exponent) c.loop-k.k),
       c.plus-cubes.ensures ∙ ap₂ (extend s).plus c.loop-k.invariant.2 (ap (λ x. x.third) share)
           ∙ sym (total_more (extend s) (single s (bit3 s) c.args.words.now c.args.exponent) c.loop-k.k),
-      c.plus-pairs.ensures ∙ ap₂ (extend s).plus c.loop-k.invariant.3 c.mixed-sum.ensures
+      c.plus-pairs.ensures ∙ ap₂ (extend s).plus c.loop-k.invariant.3 c.mixed_sum.ensures
           ∙ sym (total_more (extend s) (pair_row s c.args.words.now c.args.exponent) c.loop-k.k),
     )
 
@@ -36,9 +36,9 @@ pub returns : goal.returns
 returns g c =
     let s = g.F.Field.structure in
     let end : c.loop-k.k ≡ c.args.exponent = omega arith in
-    sums_path (record { zeroth = c.sum-over-2.result; first = c.loop-k.first; second = c.loop-k.second; third = c.plus.result })
+    sums_path (record { zeroth = c.sum_over-2.result; first = c.loop-k.first; second = c.loop-k.second; third = c.plus.result })
     (moments_of s c.args.words.now c.args.exponent)
-    c.sum-over-2.ensures
+    c.sum_over-2.ensures
     (c.loop-k.invariant.0 ∙ ap (total (extend s) (single s (bit s) c.args.words.now c.args.exponent)) end)
     (c.loop-k.invariant.1 ∙ ap (total (extend s) (single s (bit2 s) c.args.words.now c.args.exponent)) end)
     (c.plus.ensures

@@ -3,7 +3,7 @@ use Rattle.std.proofs.Common.{length, sym, ◌∙◌}
 use Rattle.line_code.proofs.Words.{admitted}
 use Rattle.line_code.proofs.line.encode_by_halves.Goals as goal
 
-pub sums-by-halves-requires : goal.sums-by-halves-requires
-sums-by-halves-requires g c =
-    let a = admitted g.F.Field.structure c.args.words.now (length c.args.checks.now) (sym c.in-ok-admit.ensures) in
+pub sums_by_halves-requires : goal.sums_by_halves-requires
+sums_by_halves-requires g c =
+    let a = admitted g.F.Field.structure c.args.words.now (length c.args.checks.now) (sym c.in_ok-admit.ensures) in
     (a.few, a.small)

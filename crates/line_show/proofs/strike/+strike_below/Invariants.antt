@@ -1,4 +1,4 @@
 use Rattle.line_show.proofs.strike.+strike_below.Given as goal
 
-abbrev pub decreases-strike-below : goal.decreases-strike-below
-decreases-strike-below g l = l.more
+abbrev pub decreases-strike_below : goal.decreases-strike_below
+decreases-strike_below g l = l.more

@@ -4,17 +4,17 @@ use Rattle.std.specs.Option.{option_map}
 use Rattle.parsing.proofs.Figures.{two_are, two_front, two_back, refused}
 use Rattle.parsing.proofs.number.two.Goals as goal
 
-pub returns-in-err-x : goal.returns-in-err-x
-returns-in-err-x c =
+pub returns-in_err-x : goal.returns-in_err-x
+returns-in_err-x c =
     let p = err_from_is_err_and c.from-residual.result c.from-residual.ensures.1 in
-    refused _ _ _ p.1 (two_front _ _ _ _ (ap (option_map (λ x. x.now)) c.in-Some.is) c.split.ensures.front c.split.ensures.back c.in-err-x.ensures)
+    refused _ _ _ p.1 (two_front _ _ _ _ (ap (option_map (λ x. x.now)) c.in-Some.is) c.split.ensures.front c.split.ensures.back c.in_err-x.ensures)
 
-pub returns-in-err-y : goal.returns-in-err-y
-returns-in-err-y c =
-    let p = err_from_is_err_and c.from-residual-in-err-y.result c.from-residual-in-err-y.ensures.1 in
-    refused _ _ _ p.1 (two_back _ _ _ _ (ap (option_map (λ x. x.now)) c.in-Some.is) c.split.ensures.front c.split.ensures.back c.in-err-y.ensures)
+pub returns-in_err-y : goal.returns-in_err-y
+returns-in_err-y c =
+    let p = err_from_is_err_and c.from-residual-in_err-y.result c.from-residual-in_err-y.ensures.1 in
+    refused _ _ _ p.1 (two_back _ _ _ _ (ap (option_map (λ x. x.now)) c.in-Some.is) c.split.ensures.front c.split.ensures.back c.in_err-y.ensures)
 
 pub returns : goal.returns
 returns c =
     two_are _ _ _ _ (ap (option_map (λ x. x.now)) c.in-Some.is) c.split.ensures.front c.split.ensures.back _ _
-    c.in-ok-x.ensures c.in-ok-y.ensures
+    c.in_ok-x.ensures c.in_ok-y.ensures

@@ -5,10 +5,10 @@ use Rattle.parsing.specs.Numbers.{Settles, seen}
 use Rattle.parsing.proofs.Telling.{word_said, line_again}
 use Rattle.parsing.proofs.parse.parse.Goals as goal
 
-pub returns-in-default : goal.returns-in-default
-returns-in-default c = λ said s. c.in-default.ensures _ (c.split.ensures.front ∙ word_said _ said s)
+pub returns-in_default : goal.returns-in_default
+returns-in_default c = λ said s. c.in_default.ensures _ (c.split.ensures.front ∙ word_said _ said s)
 
 pub returns : goal.returns
 returns c =
-    subst (λ (l : List ℕ). Settles (seen content c.frame-of.result) (Says l))
-    (line_again c.args.line.now _ _ _ c.split.ensures.front c.split.ensures.back c.in-Some.ensures) c.frame-of.ensures
+    subst (λ (l : List ℕ). Settles (seen content c.frame_of.result) (Says l))
+    (line_again c.args.line.now _ _ _ c.split.ensures.front c.split.ensures.back c.in-Some.ensures) c.frame_of.ensures

@@ -20,6 +20,6 @@ loop-bay-preserved g c =
     elim c.if-marks-bay-eq0.branch [
       | then-marks-bay-eq0 w ↦ let here : absent marks bay ≡ false = grind (arith, nat_tests) in
           sums_take s words marks bay _ _ sofar here w.column.result w.column.ensures w.unwrap-word.result
-          (taken (extend s) (get_or words bay 0) w.unwrap-word.result (sym w.unwrap-word.ensures ∙ w.from-number.ensures)).1 (w.sums-is ∙ w.add-multiple-sums.ensures)
+          (taken (extend s) (get_or words bay 0) w.unwrap-word.result (sym w.unwrap-word.ensures ∙ w.from_number.ensures)).1 (w.sums-is ∙ w.add_multiple-sums.ensures)
       | else-marks-bay-eq0 w ↦ let gone : absent marks bay ≡ true = grind (arith, nat_tests) in sums_skip s words marks bay _ _ sofar gone w.sums-is
     ]

@@ -14,17 +14,17 @@ listed_all s bays marks places m ok listed = subst (λ n. Absences (absent marks
 pub system-requires : goal.system-requires
 system-requires g c =
     let s = g.F.Field.structure in
-    let ok = admitted s c.args.words.now c.args.marks.now (sym c.in-default.ensures) in
-    record { admitted = ok; listed = listed_all s _ _ _ _ ok c.absent-bays-absent.ensures }
+    let ok = admitted s c.args.words.now c.args.marks.now (sym c.in_default.ensures) in
+    record { admitted = ok; listed = listed_all s _ _ _ _ ok c.absent_bays-absent.ensures }
 
 pub returns-in-Ok : goal.returns-in-Ok
 returns-in-Ok g c =
     let s = g.F.Field.structure in
     let words = c.args.words.now in
     let marks = c.args.marks.now in
-    let ok = admitted s words marks (sym c.in-default.ensures) in
-    let listed = listed_all s words marks _ _ ok c.absent-bays-absent.ensures in
-    subst (λ o. Restored s o words marks (Ok tt) c.fill.new.words) c.in-default.ensures
+    let ok = admitted s words marks (sym c.in_default.ensures) in
+    let listed = listed_all s words marks _ _ ok c.absent_bays-absent.ensures in
+    subst (λ o. Restored s o words marks (Ok tt) c.fill.new.words) c.in_default.ensures
     (whole s words marks _ _ ok listed c.system.result c.system.ensures c.in-Ok.found _ c.in-Ok.ensures.1.solves c.fill.ensures)
 
 pub returns-in-Err : goal.returns-in-Err
@@ -32,7 +32,7 @@ returns-in-Err g c =
     let s = g.F.Field.structure in
     let words = c.args.words.now in
     let marks = c.args.marks.now in
-    let ok = admitted s words marks (sym c.in-default.ensures) in
-    let listed = listed_all s words marks _ _ ok c.absent-bays-absent.ensures in
-    subst (λ o. Restored s o words marks (Err NoCodeword) words) c.in-default.ensures
+    let ok = admitted s words marks (sym c.in_default.ensures) in
+    let listed = listed_all s words marks _ _ ok c.absent_bays-absent.ensures in
+    subst (λ o. Restored s o words marks (Err NoCodeword) words) c.in_default.ensures
     (refl, refl, never_solved s words marks _ _ ok listed c.system.result c.system.ensures _ c.in-Err.ensures)

@@ -10,12 +10,12 @@ use Rattle.serve.specs.Served.{Served}
 use Rattle.serve.proofs.Openings.{starts, opening_sound, opening_stands, hall_none}
 use Rattle.serve.proofs.serving.serve.Goals as goal
 
-pub returns-in-err-start : goal.returns-in-err-start
-returns-in-err-start g c =
+pub returns-in_err-start : goal.returns-in_err-start
+returns-in_err-start g c =
     let q = size g.F.Field.structure in
     let some : 1 ≤ c.args.items = omega (arith, c.if-items-eq0.false) in
     let few : c.args.items ≤ q = omega (arith, c.if-items-order.false, c.order.ensures) in
-    let never : ◌≡◌ {A = Option BookFault} (Some _) None = c.in-err-start.ensures.refused ∙ starts q c.args.items c.args.lines some few _ c.in-ok-hall.ensures.1 in
+    let never : ◌≡◌ {A = Option BookFault} (Some _) None = c.in_err-start.ensures.refused ∙ starts q c.args.items c.args.lines some few _ c.in_ok-hall.ensures.1 in
     absurd (grind arith)
 
 pub returns : goal.returns
@@ -25,16 +25,16 @@ returns g c =
     let lines = c.args.lines in
     let some : 1 ≤ items = omega (arith, c.if-items-eq0.false) in
     let few : items ≤ size s = omega (arith, c.if-items-order.false, c.order.ensures) in
-    let new = c.in-ok-hall.ensures.1 in
-    let then = c.in-ok-start.ensures.then in
-    let m = hall_meaning c.in-ok-hall.hall in
+    let new = c.in_ok-hall.ensures.1 in
+    let then = c.in_ok-start.ensures.then in
+    let m = hall_meaning c.in_ok-hall.hall in
     let m' = hall_meaning c.start.new.rack in
-    let k = knows s c.in-ok-start.field-0 in
+    let k = knows s c.in_ok-start.field-0 in
     let l = first_ledger (size s) items lines in
     let sound = opening_sound s items lines some few m m' k new then.0 then.1 in
     let stands = opening_stands s items lines some few m m' k new then.0 then.1 in
-    let text = c.in-ok-add-line.ensures ∙ ap (λ (x : Said). string_bytes c.args.text.now ++ line c.args.number x) c.accepted.ensures in (
-      hall_none (size s) items lines some few c.in-ok-hall.ensures.0,
-      subst (λ (t : List ℕ). Served s (known_of s) open_bay hall_meaning g.W.Watch.sees l c.args.round.now t (string_bytes c.serve-rest.new.text) c.args.watch.now c.serve-rest.new.watch) text
-          (c.in-ok-serve-rest.ensures l c.args.watch.now sound (λ i j. refl) stands c.look.ensures),
+    let text = c.in_ok-add_line.ensures ∙ ap (λ (x : Said). string_bytes c.args.text.now ++ line c.args.number x) c.accepted.ensures in (
+      hall_none (size s) items lines some few c.in_ok-hall.ensures.0,
+      subst (λ (t : List ℕ). Served s (known_of s) open_bay hall_meaning g.W.Watch.sees l c.args.round.now t (string_bytes c.serve_rest.new.text) c.args.watch.now c.serve_rest.new.watch) text
+          (c.in_ok-serve_rest.ensures l c.args.watch.now sound (λ i j. refl) stands c.look.ensures),
     )

@@ -12,14 +12,14 @@ loop-placed-init g c =
 pub loop-placed-preserved : goal.loop-placed-preserved
 loop-placed-preserved g c =
     let s = g.F.Field.structure in
-    let next = c.answer-frame-next in (
+    let next = c.answer_frame-next in (
       next.auto.sheet ∙ c.loop-placed.invariant.0,
       λ k w₀ sound new st look.
           going_more s (known_of s) open_bay g.R.Reading.meaning g.W.Watch.sees k sound new c.args.round.now (string_bytes c.args.text.now) w₀ (c.loop-placed.invariant.1 k w₀ sound new st look)
-          c.read.new.self c.in-Some.placed c.in-Some.ensures next.result.0 next.new.rack c.show-call.new.watch (said next.result.1) (string_bytes c.add-line.new.text) c.in-ok-add-line.ensures next.ensures c.show-call.ensures,
+          c.read.new.self c.in-Some.placed c.in-Some.ensures next.result.0 next.new.rack c.show_call.new.watch (said next.result.1) (string_bytes c.add_line.new.text) c.in_ok-add_line.ensures next.ensures c.show_call.ensures,
     )
 
 pub returns : goal.returns
 returns g c l w₀ sound new st look =
     let s = g.F.Field.structure in
-    going_end s (known_of s) open_bay g.R.Reading.meaning g.W.Watch.sees l sound new c.args.round.now (string_bytes c.args.text.now) w₀ (c.loop-placed.invariant.1 l w₀ sound new st look) c.in-default.ensures
+    going_end s (known_of s) open_bay g.R.Reading.meaning g.W.Watch.sees l sound new c.args.round.now (string_bytes c.args.text.now) w₀ (c.loop-placed.invariant.1 l w₀ sound new st look) c.in_default.ensures

@@ -14,15 +14,15 @@ loop-bay-preserved-in-Ok g c =
     let m = g.R.Reading.meaning c.args.rack.now in
     let looked = look_word s c.args.items m (marked c.args.behind.now) c.args.line _ _ _ _ c.loop-bay.invariant.1 c.loop-bay-test.true c.loop-bay.auto.bay in
     let asked = looked _ c.loop-bay.invariant.0 _ c.read.ensures.answer in
-    (c.read.ensures.after ∙ c.loop-bay.invariant.0, asked (omega arith) c.if-kept-items.true c.if-not-behind-bay.true _ c.in-Ok.is _ c.count-word.ensures)
+    (c.read.ensures.after ∙ c.loop-bay.invariant.0, asked (omega arith) c.if-kept-items.true c.if-not-behind-bay.true _ c.in-Ok.is _ c.count_word.ensures)
 
-pub loop-bay-preserved-in-default : goal.loop-bay-preserved-in-default
-loop-bay-preserved-in-default g c =
+pub loop-bay-preserved-in_default : goal.loop-bay-preserved-in_default
+loop-bay-preserved-in_default g c =
     let s = g.F.Field.structure in
     let m = g.R.Reading.meaning c.args.rack.now in
     let looked = look_silent s c.args.items m (marked c.args.behind.now) c.args.line _ _ _ _ c.loop-bay.invariant.1 c.loop-bay-test.true c.loop-bay.auto.bay in
     let asked = looked _ c.loop-bay.invariant.0 _ c.read.ensures.answer in
-    (c.read.ensures.after ∙ c.loop-bay.invariant.0, asked c.requires.0 c.requires.1.1 _ c.in-default.is)
+    (c.read.ensures.after ∙ c.loop-bay.invariant.0, asked c.requires.0 c.requires.1.1 _ c.in_default.is)
 
 pub loop-bay-preserved : goal.loop-bay-preserved
 loop-bay-preserved g c =

@@ -14,38 +14,38 @@ use Rattle.book.proofs.book.Book.mend.Goals as goal
 
 pub loop-line-init : goal.loop-line-init
 loop-line-init g c =
-    mending_none g.F.Field.structure (knows g.F.Field.structure c.args.self.now) (g.R.Reading.meaning c.admit-bay.new.rack) c.args.bay
-    c.in-ok-admit-bay.ensures.then.behind c.args.sheet.now
+    mending_none g.F.Field.structure (knows g.F.Field.structure c.args.self.now) (g.R.Reading.meaning c.admit_bay.new.rack) c.args.bay
+    c.in_ok-admit_bay.ensures.then.behind c.args.sheet.now
 
 pub loop-line-preserved : goal.loop-line-preserved
 loop-line-preserved g c =
     let s = g.F.Field.structure in
     let k = knows s c.args.self.now in
-    let m = g.R.Reading.meaning c.admit-bay.new.rack in
+    let m = g.R.Reading.meaning c.admit_bay.new.rack in
     let bay = c.args.bay in
     let sheet = c.args.sheet.now in
-    let ok : Ready k m bay (length sheet) = still_ready k (g.R.Reading.meaning c.args.rack.now) bay (length sheet) m c.in-ok-admit-bay.ensures.after c.in-ok-admit-bay.ensures.then in
+    let ok : Ready k m bay (length sheet) = still_ready k (g.R.Reading.meaning c.args.rack.now) bay (length sheet) m c.in_ok-admit_bay.ensures.after c.in_ok-admit_bay.ensures.then in
     mending_more s k m bay ok.behind sheet c.loop-line.line c.loop-line.sheet (g.R.Reading.meaning c.loop-line.rack) c.loop-line.invariant ok (omega (arith, ok.lines)) (omega arith) (items_fit s c.args.self.now.last)
-    c.restore-line.new.sheet c.in-ok-restore-line.ensures.then (sym c.in-ok-restore-line.ensures.refused) (g.R.Reading.meaning c.restore-line.new.rack) (g.R.Reading.meaning c.write.new.self)
-    c.in-ok-restore-line.ensures.after c.in-ok-write.ensures.after
+    c.restore_line.new.sheet c.in_ok-restore_line.ensures.then (sym c.in_ok-restore_line.ensures.refused) (g.R.Reading.meaning c.restore_line.new.rack) (g.R.Reading.meaning c.write.new.self)
+    c.in_ok-restore_line.ensures.after c.in_ok-write.ensures.after
 
-pub returns-in-err-restore-line : goal.returns-in-err-restore-line
-returns-in-err-restore-line g c =
+pub returns-in_err-restore_line : goal.returns-in_err-restore_line
+returns-in_err-restore_line g c =
     let s = g.F.Field.structure in
     let k = knows s c.args.self.now in
-    let m = g.R.Reading.meaning c.admit-bay.new.rack in
+    let m = g.R.Reading.meaning c.admit_bay.new.rack in
     let bay = c.args.bay in
     let sheet = c.args.sheet.now in
-    let same = c.in-ok-admit-bay.ensures.after in
-    let ok : Ready k m bay (length sheet) = still_ready k (g.R.Reading.meaning c.args.rack.now) bay (length sheet) m same c.in-ok-admit-bay.ensures.then in
-    let fault = c.in-err-restore-line.field-0.0 in
+    let same = c.in_ok-admit_bay.ensures.after in
+    let ok : Ready k m bay (length sheet) = still_ready k (g.R.Reading.meaning c.args.rack.now) bay (length sheet) m same c.in_ok-admit_bay.ensures.then in
+    let fault = c.in_err-restore_line.field-0.0 in
     let told = mend_refused s k m bay ok.behind sheet c.loop-line.line c.loop-line.sheet (g.R.Reading.meaning c.loop-line.rack) c.loop-line.invariant ok (omega (arith, ok.lines)) (omega arith) (items_fit s c.args.self.now.last)
-    fault c.in-err-restore-line.ensures.refused in
-    let by = passed c.from-residual-in-err-restore-line.result (Book fault) c.from-residual-in-err-restore-line.ensures.1 in
-    let left = c.in-err-restore-line.ensures.then ∙ told.2 in
+    fault c.in_err-restore_line.ensures.refused in
+    let by = passed c.from-residual-in_err-restore_line.result (Book fault) c.from-residual-in_err-restore_line.ensures.1 in
+    let left = c.in_err-restore_line.ensures.then ∙ told.2 in
     record {
       refused = refused_by _ (Book fault) _ by (told.0 ∙ ap (λ (x : Meaning). why_mend k (front_of x) (length sheet) bay) same);
-      then = in_refusal _ (Book fault) _ _ by (refl, c.in-err-restore-line.ensures.after ∙ told.1 ∙ same, left);
+      then = in_refusal _ (Book fault) _ _ by (refl, c.in_err-restore_line.ensures.after ∙ told.1 ∙ same, left);
       long = ap length left;
     }
 
@@ -53,12 +53,12 @@ pub returns : goal.returns
 returns g c =
     let s = g.F.Field.structure in
     let k = knows s c.args.self.now in
-    let m = g.R.Reading.meaning c.admit-bay.new.rack in
+    let m = g.R.Reading.meaning c.admit_bay.new.rack in
     let m₁ = g.R.Reading.meaning c.loop-line.rack in
     let bay = c.args.bay in
     let sheet = c.args.sheet.now in
-    let same = c.in-ok-admit-bay.ensures.after in
-    let ok : Ready k m bay (length sheet) = still_ready k (g.R.Reading.meaning c.args.rack.now) bay (length sheet) m same c.in-ok-admit-bay.ensures.then in
+    let same = c.in_ok-admit_bay.ensures.after in
+    let ok : Ready k m bay (length sheet) = still_ready k (g.R.Reading.meaning c.args.rack.now) bay (length sheet) m same c.in_ok-admit_bay.ensures.then in
     let marks : length c.args.self.now.behind ≡ 260 = search in
     let every : c.loop-line.line ≡ m.lines = omega (arith, ok.lines) in
     let so : Mending s k m bay sheet m.lines m₁ c.loop-line.sheet = subst (λ n. Mending s k m bay sheet n m₁ c.loop-line.sheet) every c.loop-line.invariant in

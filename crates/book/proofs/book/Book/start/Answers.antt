@@ -17,8 +17,8 @@ returns g c =
     let lines = c.lines-lines.ensures.answer ∙ ap (λ x. x.lines) asked in
     let heard = c.listen-silent.ensures.after ∙ asked-lines in
     let few : silences (front_of m) ≤ 4 = omega (arith, c.listen-silent.ensures.count ∙ ap (λ x. silences (front_of x)) asked-lines) in
-    let made = taken s (items - 1) c.in-ok-last.last c.in-ok-last.ensures in
-    let count : s.value c.in-ok-last.last + 1 ≡ items = omega (arith, ap s.value made.1 ∙ s.value_of (items - 1) made.0) in
+    let made = taken s (items - 1) c.in_ok-last.last c.in_ok-last.ensures in
+    let count : s.value c.in_ok-last.last + 1 ≡ items = omega (arith, ap s.value made.1 ∙ s.value_of (items - 1) made.0) in
     record {
       refused = sym (may_start m items (size s) (omega arith) (omega (arith, c.order.ensures)) (omega (arith, bays)) few);
       then = (

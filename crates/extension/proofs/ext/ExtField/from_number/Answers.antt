@@ -6,11 +6,11 @@ use Rattle.extension.proofs.Parts.{low_made, high_made, high_taken, parts_made}
 use Rattle.extension.proofs.ext.ExtField.from_number.Goals as goal
 
 -- the quotient is below the order, so its element was not refused
-pub returns-in-err-hi : goal.returns-in-err-hi
-returns-in-err-hi g c =
+pub returns-in_err-hi : goal.returns-in_err-hi
+returns-in_err-hi g c =
     let s = g.F.Field.structure in
     let h : c.args.n < size (extend s) = omega arith in
-    absurd (high_taken s c.args.n c.order-q.result _ c.order-q.ensures h c.in-err-hi.ensures)
+    absurd (high_taken s c.args.n c.order-q.result _ c.order-q.ensures h c.in_err-hi.ensures)
 
 pub returns : goal.returns
 returns g c =
@@ -19,6 +19,6 @@ returns g c =
     let l = low_made s c.args.n in
     let m = high_made s c.args.n h in
     let p = parts_made s c.args.n h in
-    let lo = c.in-ok-lo.ensures in
-    let hi = c.in-ok-hi.ensures in
+    let lo = c.in_ok-lo.ensures in
+    let hi = c.in_ok-hi.ensures in
     cc

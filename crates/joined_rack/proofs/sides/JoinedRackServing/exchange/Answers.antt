@@ -15,7 +15,7 @@ returns-in-First g c =
     let within : bay < (side_by_side m n).bays = search rules in
     let step : k ≡ exchange_after m bay (k.word bay) = search rules in
     let whole = first_exchange m n k bay within has step in
-    let ranges = side_by_side_ranges k n c.exchange.ensures.ranges c.part.ensures.second-ranges in
+    let ranges = side_by_side_ranges k n c.exchange.ensures.ranges c.part.ensures.second_ranges in
     search rules
 
 pub returns-in-Second : goal.returns-in-Second
@@ -28,5 +28,5 @@ returns-in-Second g c =
     let within : bay < (side_by_side m n).bays = search rules in
     let step : k ≡ exchange_after n (bay - m.bays) (k.word (bay - m.bays)) = search rules in
     let whole = second_exchange m n k bay within past step in
-    let ranges = side_by_side_ranges m k c.part.ensures.first-ranges c.exchange-in-Second.ensures.ranges in
+    let ranges = side_by_side_ranges m k c.part.ensures.first_ranges c.exchange-in-Second.ensures.ranges in
     search rules

@@ -4,39 +4,39 @@ use Rattle.round.proofs.rounds.Round.read.Goals as goal
 
 pub invariant-of-self : goal.invariant-of-self
 invariant-of-self c =
-    let still = stays c.args.self.now.reader c.next.new.self c.next.result c.next.ensures.steps c.in-err-answer.was in
+    let still = stays c.args.self.now.reader c.next.new.self c.next.result c.next.ensures.steps c.in_err-answer.was in
     let same = c.next.ensures.steps.0 in
     let old = c.args.self.now in
     (omega (arith, still, old.counted), (omega (arith, old.fits, ap length same), (λ i. subst (λ (file : List ℕ). get_or file i 0 < 256) (sym same) (old.bytes i), tt)))
 
 pub overflow-add-self : goal.overflow-add-self
 overflow-add-self c =
-    let on = onward c.args.self.now.reader c.next.new.self c.next.result c.next.ensures.steps (c.in-ok-answer.ensures.goes.on tt).2 in
+    let on = onward c.args.self.now.reader c.next.new.self c.next.result c.next.ensures.steps (c.in_ok-answer.ensures.goes.on tt).2 in
     omega (arith, on, c.args.self.now.counted, c.next.new.self.within, ap length c.next.ensures.steps.0)
 
 pub invariant-of-self-2 : goal.invariant-of-self-2
 invariant-of-self-2 c =
-    let on = onward c.args.self.now.reader c.next.new.self c.next.result c.next.ensures.steps (c.in-ok-answer.ensures.goes.on tt).2 in
+    let on = onward c.args.self.now.reader c.next.new.self c.next.result c.next.ensures.steps (c.in_ok-answer.ensures.goes.on tt).2 in
     let same = c.next.ensures.steps.0 in
     let old = c.args.self.now in
     (omega (arith, on, old.counted), (omega (arith, old.fits, ap length same), (λ i. subst (λ (file : List ℕ). get_or file i 0 < 256) (sym same) (old.bytes i), tt)))
 
-pub returns-in-err-answer : goal.returns-in-err-answer
-returns-in-err-answer c =
-    let ends = reads_end c.args.self.now.reader c.next.new.self c.next.result c.next.ensures.steps c.in-err-answer.was in
+pub returns-in_err-answer : goal.returns-in_err-answer
+returns-in_err-answer c =
+    let ends = reads_end c.args.self.now.reader c.next.new.self c.next.result c.next.ensures.steps c.in_err-answer.was in
     rw c.from-residual.ensures ends
 
 pub returns : goal.returns
 returns c =
     let s = c.args.self.now.reader in
     let t = c.next.new.self in
-    let is = c.in-ok-answer.was in
+    let is = c.in_ok-answer.was in
     record {
       number = refl;
       offset = c.offset-offset.ensures;
       counted = refl;
       file = c.next.ensures.steps.0;
-      then = reads_then s t c.next.result c.next.ensures.steps c.in-ok-answer.answer is c.args.self.now.bytes;
-      place = reads_place s t c.next.result c.next.ensures.steps c.in-ok-answer.answer is;
-      less = (c.in-ok-answer.ensures.goes.on tt).2;
+      then = reads_then s t c.next.result c.next.ensures.steps c.in_ok-answer.answer is c.args.self.now.bytes;
+      place = reads_place s t c.next.result c.next.ensures.steps c.in_ok-answer.answer is;
+      less = (c.in_ok-answer.ensures.goes.on tt).2;
     }

@@ -8,19 +8,19 @@ use Rattle.frame.proofs.Fronts.{rest_of, step_none, step_cut, step_whole, front_
 use Rattle.frame.proofs.reader.next.ReaderIterator.next.Goals as goal
 use Rattle.std.proofs.iter.Next.{firm}
 
-pub returns-then-is-empty : goal.returns-then-is-empty
-returns-then-is-empty c =
+pub returns-then-is_empty : goal.returns-then-is_empty
+returns-then-is_empty c =
     let s = c.args.self.now in
-    let empty = rw (rest_of s.file.now s.offset) at (true-eqb _ _ c.if-is-empty.ensures) in
+    let empty = rw (rest_of s.file.now s.offset) at (true-eqb _ _ c.if-is_empty.ensures) in
     record { steps = (refl, step_none s.offset (drop s.offset s.file.now) _ empty refl); goes = firm (tt) (λ h. search rules) }
 
-pub returns-in-default : goal.returns-in-default
-returns-in-default c =
+pub returns-in_default : goal.returns-in_default
+returns-in_default c =
     let s = c.args.self.now in
     let bytes = drop s.offset s.file.now in
     let same = rest_of s.file.now s.offset in
-    let left = rw same at (false-eqb _ _ c.if-is-empty.ensures) in
-    let cut = rw same at c.in-default.ensures in
+    let left = rw same at (false-eqb _ _ c.if-is_empty.ensures) in
+    let cut = rw same at c.in_default.ensures in
     let none = drop_all (length s.file.now) s.file.now (omega arith) in
     let some : 0 < length bytes = omega (arith, left) in
     record {
@@ -35,10 +35,10 @@ returns c =
     let bytes = drop s.offset file in
     let w = raw c.in-Some.frame in
     let same = rest_of file s.offset in
-    let left = rw same at (false-eqb _ _ c.if-is-empty.ensures) in
+    let left = rw same at (false-eqb _ _ c.if-is_empty.ensures) in
     let whole = rw same at c.in-Some.ensures in
     let some : 0 < length bytes = omega (arith, left) in
-    let said = ap told c.ok-or.ensures.value ∙ told_okOr c.decode.result _ ∙ ap (λ o. ok_or o (BodyLength s.offset)) c.decode.ensures in
+    let said = ap told c.ok_or.ensures.value ∙ told_okOr c.decode.result _ ∙ ap (λ o. ok_or o (BodyLength s.offset)) c.decode.ensures in
     let behind = ap (λ k. drop k file) (add_assoc s.offset 4 (length w.body)) ∙ sym (drop-drop (size w) s.offset file) in
     let less = ap length behind ∙ length-drop (size w) bytes in
     record {
