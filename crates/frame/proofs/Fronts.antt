@@ -1,13 +1,12 @@
 -- The frame at the front of the bytes, by places, and what one step of reading leaves. Assumes nothing.
-use Rattle.std.proofs.Common.{◌≡◌, ℕ, ◌+◌, ◌-◌, ◌<◌, ◌≤◌, Bool, true, false, cond, leb, List, [], ◌∷◌, length, get_or, take, drop, Some, None, Err, Option, sym, refl, ap, ◌∙◌, arith, length-drop, length-take-le, le-leb, leb-true}
-use Rattle.std.proofs.lemmas.List.{drop-drop, drop_all}
+use Rattle.std.proofs.Common.{◌≡◌, ℕ, ◌+◌, ◌-◌, ◌<◌, ◌≤◌, Bool, true, false, cond, leb, List, [], ◌∷◌, length, get_or, take, drop, Some, None, Err, Option, sym, refl, ap, ◌∙◌, arith, length-take-le, le-leb, leb-true}
 use Rattle.std.proofs.lemmas.Slice.{between_to_end}
 use Rattle.std.specs.Option.{ok_or, option_map}
 use Rattle.fault.specs.declared.fault.FileFault.{FileFault}
 use Rattle.fault.specs.declared.fault.FileFault.TheVariants.{CutShort, BodyLength}
 use Rattle.frame.specs.declared.frame.Frame.{Frame}
-use Rattle.frame.specs.Format.{Content, content, Whole, number, front, size, meant}
-use Rattle.frame.specs.Reading.{Answer, Step, step, taken, told}
+use Rattle.frame.specs.Format.{content, Whole, number, front, size, meant}
+use Rattle.frame.specs.Reading.{Answer, step, taken, told}
 
 -- The bytes from an offset to the end.
 pub rest_of : (bytes : List ℕ) (offset : ℕ) → take (length bytes - offset) (drop offset bytes) ≡ drop offset bytes

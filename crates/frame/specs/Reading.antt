@@ -1,5 +1,5 @@
 -- What a reader answers to each frame, and which bytes it leaves. Assumes nothing.
-use Rattle.std.specs.Prelude.{◌≡◌, ℕ, List, [], ◌∷◌, length, drop, Some, None, Ok, Err, Option, Result}
+use Rattle.std.specs.Prelude.{◌≡◌, ℕ, List, [], ◌∷◌, drop, Some, None, Ok, Err, Option, Result}
 use Rattle.std.specs.Option.{option_map, ok_or}
 use Rattle.fault.specs.declared.fault.FileFault.{FileFault}
 use Rattle.fault.specs.declared.fault.FileFault.TheVariants.{CutShort, BodyLength}

@@ -4,7 +4,7 @@ use Rattle.std.specs.declared.alloc.Global.{Global}
 use Rattle.frame.specs.declared.encode.WriteFault.{WriteFault}
 use Rattle.frame.specs.declared.encode.WriteFault.TheVariants.{Improper, Memory}
 use Rattle.frame.specs.Format.{Content, bytes_of, proper}
-use Rattle.frame.specs.Reading.{Step, step}
+use Rattle.frame.specs.Reading.{step}
 
 -- The bytes are the frame's, or the refusal says why there are none.
 abbrev pub Written : Content → Result (Vec ℕ Global) WriteFault → Type 0

@@ -1,4 +1,4 @@
-use Rattle.std.proofs.Common.{◌≡◌, ◌<◌, length, drop, sym, refl, ap, ◌∙◌, add_assoc, arith, length-drop, rules, true-eqb, false-eqb}
+use Rattle.std.proofs.Common.{◌<◌, length, drop, sym, refl, ap, ◌∙◌, add_assoc, arith, length-drop, rules, true-eqb, false-eqb}
 use Rattle.std.specs.Option.{ok_or}
 use Rattle.fault.specs.declared.fault.FileFault.TheVariants.{BodyLength}
 use Rattle.frame.specs.Format.{size}
