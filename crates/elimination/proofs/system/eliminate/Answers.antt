@@ -15,7 +15,7 @@ loop-n-init g c =
 pub returns-in_err-p : goal.returns-in_err-p
 returns-in_err-p g c =
     let s = g.F.Field.structure in
-    subst (Eliminated s c.args.rows c.args.unknowns) (sym c.from-residual.ensures)
+    subst (Eliminated s c.args.rows c.args.unknowns) (sym c.from_residual.ensures)
     (dependent s (table s c.args.rows) (table s c.loop-n.rows) c.loop-n.n c.args.unknowns c.requires c.loop-n-test.true
     c.loop-n.invariant.0 c.loop-n.invariant.1 (λ r h k. c.in_err-p.ensures r (omega arith) k))
 
