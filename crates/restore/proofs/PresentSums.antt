@@ -1,5 +1,5 @@
 -- The sums of the present words, bay by bay. Assumes nothing.
-use Rattle.std.proofs.Common.{◌≡◌, ℕ, zero, suc, ◌+◌, ◌<◌, Bool, true, false, cond, List, get_or, sym, refl, ap, ◌∙◌, ap₂, arith}
+use Rattle.std.proofs.Common.{◌≡◌, ℕ, zero, suc, ◌+◌, ◌<◌, true, false, cond, List, get_or, sym, refl, ap, ◌∙◌, ap₂}
 use Rattle.ring2.proofs.Laws.{times_zero}
 use Rattle.field.specs.Structure.{Structure}
 use Rattle.extension.specs.declared.ext.Ext.{Ext}

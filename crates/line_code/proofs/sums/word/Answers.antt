@@ -3,5 +3,5 @@ use Rattle.std.proofs.Common.{arith}
 use Rattle.line_code.proofs.Words.{number_fits}
 use Rattle.line_code.proofs.sums.word.Goals as goal
 
-pub overflow-cast-result : goal.overflow-cast-result
-overflow-cast-result g c = omega (arith, c.number.ensures, number_fits g.F.Field.structure g.met.F.BaseField.small c.args.x)
+pub overflow_cast-result : goal.overflow_cast-result
+overflow_cast-result g c = omega (arith, c.number.ensures, number_fits g.F.Field.structure g.met.F.BaseField.small c.args.x)

@@ -1,4 +1,4 @@
-use Rattle.std.proofs.Common.{◌≡◌, ℕ, ◌+◌, ◌<◌, true, false, List, length, sym, ap, subst₂, arith}
+use Rattle.std.proofs.Common.{◌≡◌, ℕ, ◌+◌, ◌<◌, true, false, List, length, sym, subst₂, arith}
 use Rattle.std.proofs.lemmas.Bool.Decides.{nat_tests}
 use Rattle.restore.specs.Restored.{absent}
 use Rattle.restore.specs.Absences.{Absences}
@@ -15,14 +15,14 @@ left c =
 pub loop-bay-init : goal.loop-bay-init
 loop-bay-init c = absences_none (absent c.args.marks.now)
 
-pub offset-bounds-bays-count : goal.offset-bounds-bays-count
-offset-bounds-bays-count c = omega (arith, left c)
+pub offset_bounds-bays-count : goal.offset_bounds-bays-count
+offset_bounds-bays-count c = omega (arith, left c)
 
 pub bounds-bays-count : goal.bounds-bays-count
 bounds-bays-count c = left c
 
-pub overflow-add-count : goal.overflow-add-count
-overflow-add-count c = omega (arith, left c)
+pub overflow_add-count : goal.overflow_add-count
+overflow_add-count c = omega (arith, left c)
 
 pub loop-bay-preserved : goal.loop-bay-preserved
 loop-bay-preserved c =

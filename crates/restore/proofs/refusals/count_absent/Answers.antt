@@ -1,4 +1,4 @@
-use Rattle.std.proofs.Common.{◌≡◌, ◌+◌, true, false, not, eqb, sym, refl, ap, ◌∙◌, arith}
+use Rattle.std.proofs.Common.{◌≡◌, ◌+◌, true, false, sym, ap, ◌∙◌, arith}
 use Rattle.std.proofs.lemmas.Bool.Decides.{nat_tests}
 use Rattle.restore.specs.Restored.{absent}
 use Rattle.codeword.proofs.Counts.{count_none, count_le, count_skip, count_take}
@@ -8,8 +8,8 @@ use Rattle.restore.proofs.refusals.count_absent.Goals.{then-mark-ne0, else-mark-
 pub loop-mark-init : goal.loop-mark-init
 loop-mark-init c = sym (count_none (absent c.args.marks.now))
 
-pub overflow-add-count : goal.overflow-add-count
-overflow-add-count c = omega (arith, count_le (absent c.args.marks.now) c.loop-mark.mark-index, c.loop-mark.invariant)
+pub overflow_add-count : goal.overflow_add-count
+overflow_add-count c = omega (arith, count_le (absent c.args.marks.now) c.loop-mark.mark-index, c.loop-mark.invariant)
 
 pub loop-mark-preserved : goal.loop-mark-preserved
 loop-mark-preserved c =

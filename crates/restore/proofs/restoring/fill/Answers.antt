@@ -4,8 +4,8 @@ use Rattle.codeword.proofs.Words.{word_fits}
 use Rattle.restore.proofs.Filling.{placed_none, placed_more}
 use Rattle.restore.proofs.restoring.fill.Goals as goal
 
-pub overflow-cast-words : goal.overflow-cast-words
-overflow-cast-words g c = omega (arith, c.number.ensures, word_fits g.F.Field.structure g.met.F.BaseField.small c.get.result)
+pub overflow_cast-words : goal.overflow_cast-words
+overflow_cast-words g c = omega (arith, c.number.ensures, word_fits g.F.Field.structure g.met.F.BaseField.small c.get.result)
 
 pub loop-j-init : goal.loop-j-init
 loop-j-init g c = placed_none g.F.Field.structure c.args.words.now c.args.absent.bays c.args.found

@@ -1,7 +1,7 @@
-use Rattle.std.proofs.Common.{◌≡◌, ℕ, List, length, None, Ok, Err, sym, refl, subst}
+use Rattle.std.proofs.Common.{ℕ, List, length, Ok, Err, sym, refl, subst}
 use Rattle.fault.specs.declared.fault.BookFault.TheVariants.{NoCodeword}
 use Rattle.field.specs.Structure.{Structure}
-use Rattle.restore.specs.Restored.{absent, refusal, Restored, Admitted}
+use Rattle.restore.specs.Restored.{absent, Restored, Admitted}
 use Rattle.restore.specs.Absences.{Absences}
 use Rattle.restore.proofs.Admitting.{admitted}
 use Rattle.restore.proofs.Solving.{whole, never_solved}

@@ -1,9 +1,9 @@
-use Rattle.std.proofs.Common.{◌≡◌, ℕ, zero, suc, ◌+◌, ◌<◌, ◌≤◌, Bool, true, false, List, [], ◌∷◌, get_or, sym, refl, ap, subst, arith, lit<, lit≤}
+use Rattle.std.proofs.Common.{ℕ, zero, suc, ◌<◌, ◌≤◌, [], ◌∷◌, get_or, sym, refl, arith, lit<, lit≤}
 use borrow.Author.Tests.{clash}
 use Rattle.field.specs.Four.{four}
 use Rattle.extension.specs.Extend.{extend}
 use Rattle.codeword.specs.Sums.{total, count}
-use Rattle.codeword.specs.Codeword.{codeword, words, Line, Agrees}
+use Rattle.codeword.specs.Codeword.{words, Line, Agrees}
 use Rattle.distance.proofs.Theorem.{one_at_most}
 use Rattle.restore.specs.Restored.{absent, Whole}
 use Rattle.restore.specs.Worked.{two_present, two_marks}
