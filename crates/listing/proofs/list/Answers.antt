@@ -10,7 +10,7 @@ loop-answer-preserved c =
     let text = pushed c.as_str.result.now refl c.in_ok-push_str.was c.push_str.ensures.bytes in (
       tt,
       tt,
-      turn_more c.loop-answer.invariant.2 t c.next.result c.next.ensures.steps (λ i. omega (arith, c.type-inv.file i)) (c.in-Some.ensures.goes.on tt).2 c.in-Some.answer c.in-Some.is _
+      turn_more c.loop-answer.invariant.2 t c.next.result c.next.ensures.steps (λ i. omega (arith, c.type_inv.file i)) (c.in-Some.ensures.goes.on tt).2 c.in-Some.answer c.in-Some.is _
           (text ∙ ap (λ l. string_bytes c.loop-answer.text ++ l) line),
     )
 

@@ -1,6 +1,4 @@
-use Rattle.std.proofs.Common.{◌≡◌, length, string_bytes}
-use Rattle.frame.proofs.Laws.{Sofar}
-use Rattle.listing.specs.Lines.{lines_from}
+use Rattle.std.proofs.Common.{string_bytes}
 use Rattle.listing.proofs.Turns.{Turn}
 use Rattle.listing.proofs.list.Given as goal
 

@@ -1,4 +1,4 @@
-use Rattle.std.proofs.Common.{map, is_ok, sym, ap, ◌∙◌, take_all}
+use Rattle.std.proofs.Common.{map, is_ok, ap, take_all}
 use Rattle.std.proofs.Output.{has_written_append, has_written_of_eq}
 use Rattle.listing.specs.Text.{visible}
 use Rattle.listing.proofs.Printing.{one_more}
