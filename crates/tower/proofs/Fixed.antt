@@ -9,7 +9,6 @@ use Rattle.ring2.specs.Ring.{Ops, Ring}
 use Rattle.ring2.proofs.Laws.{zero_times, one_times, plus_times}
 use Rattle.ring2.proofs.Solve.{reading, solved}
 use Rattle.field.specs.Structure.{Structure, size}
-use Rattle.field.specs.Numbers.{product}
 use Rattle.field.proofs.Elements.{of_zero, of_one, of_xor}
 use Rattle.tower.specs.Tower.{bit, generator, all_generators, monomial, Tower}
 use Rattle.tower.specs.Product.{joined, tower_product, Fixed}

@@ -14,8 +14,8 @@ use field::{BaseField, Field};
 
 // The number of the product of the elements of two numbers. In a tower it is the product that the generators fix.
 pub fn product<F: Field>(a: u32, b: u32) -> Result<u32, BookFault>
-    ensures value { result ≡ numbers_answer (product-of structure) (size structure) a b }
-    ensures tower { (m : ℕ) → Tower structure m → result ≡ numbers_answer (tower_product m) (2 ^ (2 ^ m)) a b }
+    ensures value { result ≡ numbers_answer (product-of F.structure) (size F.structure) a b }
+    ensures tower { (m : ℕ) → Tower F.structure m → result ≡ numbers_answer (tower_product m) (2 ^ (2 ^ m)) a b }
 {
     let x = F::from_number(a)?;
     let y = F::from_number(b)?;
@@ -24,7 +24,7 @@ pub fn product<F: Field>(a: u32, b: u32) -> Result<u32, BookFault>
 
 // The number of the inverse of the element of a number.
 pub fn inverse<F: Field>(a: u32) -> Result<u32, BookFault>
-    ensures { result ≡ inverse_answer structure a }
+    ensures { result ≡ inverse_answer F.structure a }
 {
     let x = F::from_number(a)?;
     Ok(x.inverse().number())
@@ -37,7 +37,7 @@ pub fn tower_grows<F: BaseField>()
 
 // The relations of the generators fix every product of a tower.
 pub fn tower_fixes_products<F: Field>()
-    ensures { (m : ℕ) → Tower structure m → Fixed structure m }
+    ensures { (m : ℕ) → Tower F.structure m → Fixed F.structure m }
 {}
 
 // The fields of 4, 16, 256 and 65536 elements are Cantor's tower.
