@@ -1,5 +1,5 @@
 -- The sums t0 to t3 by halves are the sums of d·w^l, by induction on the exponent. Assumes nothing.
-use Rattle.std.proofs.Common.{◌≡◌, ℕ, zero, suc, ◌+◌, ◌*◌, ◌^◌, ◌<◌, ◌≤◌, [], ◌∷◌, sym, refl, ap, ◌∙◌, ap₂, arith, pow_mono}
+use Rattle.std.proofs.Common.{◌≡◌, ℕ, zero, suc, ◌+◌, ◌*◌, ◌^◌, ◌<◌, ◌≤◌, [], ◌∷◌, sym, ap, ◌∙◌, ap₂, arith}
 use lib.Bits.{bit_xor, xor_shifted}
 use lib.Pow.{pow-lt}
 use Rattle.ring2.proofs.Laws.{times_zero, zero_plus}

@@ -1,12 +1,12 @@
 -- The check words of a line from its sums by halves. Assumes nothing.
-use Rattle.std.proofs.Common.{◌≡◌, ℕ, ◌+◌, ◌-◌, ◌^◌, ◌<◌, ◌≤◌, List, [], ◌∷◌, length, get_or, sym, refl, ap, ◌∙◌, ap₂, arith}
+use Rattle.std.proofs.Common.{◌≡◌, ℕ, ◌+◌, ◌-◌, ◌^◌, ◌≤◌, List, [], ◌∷◌, length, sym, ap, ◌∙◌, ap₂, arith}
 use Rattle.std.proofs.lemmas.List.{get_or_past}
 use Rattle.ring2.proofs.Laws.{zero_plus, zero_times}
 use Rattle.ring2.proofs.Solve.{reading, solved}
-use Rattle.field.specs.Structure.{Structure, size}
+use Rattle.field.specs.Structure.{Structure}
 use Rattle.field.proofs.Elements.{of_zero}
 use Rattle.extension.specs.declared.ext.Ext.{Ext}
-use Rattle.extension.specs.Formulas.{pair, embed, root_u}
+use Rattle.extension.specs.Formulas.{pair, root_u}
 use Rattle.extension.specs.Extend.{extend}
 use Rattle.extension.proofs.Embed.{plus_parts}
 use Rattle.codeword.specs.Sums.{total, power}

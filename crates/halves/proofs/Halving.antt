@@ -1,9 +1,9 @@
 -- Runs by halves: which terms and bits they depend on, and the steps from 2^m items to 2^(m + 1). Assumes nothing.
-use Rattle.std.proofs.Common.{◌≡◌, ℕ, zero, suc, ◌+◌, ◌*◌, ◌^◌, ◌<◌, ◌≤◌, Bool, true, false, cond, eqb, sym, refl, ap, ◌∙◌, ap₂, pow-suc, arith, pow_pos, pow_mono, pow-add, eq-eqb, ne_eqb}
-use Rattle.ring2.proofs.Laws.{times_zero, plus_times, exchange}
+use Rattle.std.proofs.Common.{◌≡◌, ℕ, zero, suc, ◌+◌, ◌^◌, ◌<◌, Bool, true, false, cond, eqb, refl, ap, ◌∙◌, ap₂, pow-suc, arith, eq-eqb, ne_eqb}
+use Rattle.ring2.proofs.Laws.{plus_times}
 use Rattle.field.specs.Structure.{Structure}
 use Rattle.codeword.specs.Sums.{total}
-use Rattle.codeword.proofs.Sums.{total_suc, total_ext, total_plus, total_zero}
+use Rattle.codeword.proofs.Sums.{total_suc, total_ext, total_plus}
 use Rattle.halves.specs.Runs.{none, one, two, upper, run}
 
 pub twice : (m : ℕ) → 2 ^ suc m ≡ 2 ^ m + 2 ^ m

@@ -1,5 +1,5 @@
 -- Sums of d·(c + w)^l by those of d·w^l, for l from 0 to 3. Assumes nothing.
-use Rattle.std.proofs.Common.{◌≡◌, ℕ, [], ◌∷◌, sym, refl, ap, ◌∙◌, ap₂}
+use Rattle.std.proofs.Common.{◌≡◌, ℕ, [], ◌∷◌, ap, ◌∙◌, ap₂}
 use Rattle.ring2.proofs.Solve.{reading, solved}
 use Rattle.field.specs.Structure.{Structure}
 use Rattle.codeword.specs.Sums.{total, power}

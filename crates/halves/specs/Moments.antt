@@ -1,5 +1,5 @@
 -- The sums t0 to t3 of a run by halves, and the check words that they give. Assumes nothing.
-use Rattle.std.specs.Prelude.{ℕ, ◌+◌, ◌^◌, List, length, slice_index}
+use Rattle.std.specs.Prelude.{ℕ, ◌^◌, List, slice_index}
 use Rattle.field.specs.Structure.{Structure}
 use Rattle.extension.specs.declared.ext.Ext.{Ext}
 use Rattle.extension.specs.Formulas.{embed, root_u}
