@@ -1,9 +1,9 @@
 -- The two parts of a list of words are the halves of its run, and the steps of the sums by halves. Assumes nothing.
-use Rattle.std.proofs.Common.{◌≡◌, ℕ, suc, ◌+◌, ◌^◌, ◌<◌, ◌≤◌, min, Bool, true, false, List, [], ◌∷◌, length, get_or, take, drop, sym, refl, ap, ◌∙◌, subst, ap₂, arith, length-drop, length-take, get_or-drop, get_or-take}
+use Rattle.std.proofs.Common.{◌≡◌, ℕ, suc, ◌+◌, ◌^◌, ◌<◌, ◌≤◌, min, Bool, true, false, List, [], ◌∷◌, length, get_or, take, drop, sym, refl, ap, ◌∙◌, ap₂, arith, length-drop, length-take, get_or-drop, get_or-take}
 use native.Mathlib.Decide.{dec_lt}
 use Rattle.std.proofs.lemmas.List.{get_or_past}
 use Rattle.ring2.proofs.Solve.{var, nought, unit, ◌⊕◌, ◌⊗◌, ex, reading, solved}
-use Rattle.field.specs.Structure.{Structure, size}
+use Rattle.field.specs.Structure.{Structure}
 use Rattle.field.proofs.Elements.{of_one}
 use Rattle.extension.specs.declared.ext.Ext.{Ext}
 use Rattle.extension.specs.Formulas.{pair, over, embed, root_u}

@@ -4,7 +4,7 @@ use Rattle.field.specs.Structure.{Structure}
 use Rattle.extension.specs.declared.ext.Ext.{Ext}
 use Rattle.extension.specs.Extend.{extend}
 use Rattle.codeword.specs.Codeword.{element, point}
-use Rattle.codeword.proofs.Sums.{total_none, total_more}
+use Rattle.codeword.proofs.Sums.{total_more}
 use Rattle.line_code.specs.declared.sums.Sums.{Sums}
 use Rattle.line_code.specs.Sums.{term, sums_of, sums_with}
 

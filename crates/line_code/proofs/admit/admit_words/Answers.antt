@@ -1,5 +1,5 @@
 -- Word by word: a large one is the answer, a small one leaves it to the next.
-use Rattle.std.proofs.Common.{◌<◌, ◌≤◌, length, get_or, drop, sym, ap, ◌∙◌, arith}
+use Rattle.std.proofs.Common.{◌<◌, ◌≤◌, length, get_or, sym, ap, ◌∙◌, arith}
 use Rattle.std.proofs.lemmas.List.{drop_all}
 use Rattle.field.specs.Structure.{size}
 use Rattle.extension.specs.Extend.{extend}

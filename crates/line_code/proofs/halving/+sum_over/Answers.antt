@@ -1,5 +1,5 @@
 -- Words past the end are zero, and the parts of the list are the halves of the run.
-use Rattle.std.proofs.Common.{◌≡◌, suc, ◌-◌, ◌^◌, ◌≤◌, min, length, sym, ap, ◌∙◌, subst, ap₂, arith, rules}
+use Rattle.std.proofs.Common.{◌≡◌, suc, ◌-◌, ◌^◌, min, length, sym, ap, ◌∙◌, subst, ap₂, arith}
 use Rattle.extension.specs.Extend.{extend}
 use Rattle.halves.specs.Runs.{run}
 use Rattle.halves.specs.Moments.{items_of}

@@ -1,5 +1,5 @@
 -- The short form of the mixed factor.
-use Rattle.std.proofs.Common.{ap, ◌∙◌, ap₂}
+use Rattle.std.proofs.Common.{◌∙◌, ap₂}
 use Rattle.halves.specs.Moments.{bit}
 use Rattle.line_code.proofs.Parts.{mixed_short}
 use Rattle.line_code.proofs.halving.mixed.Goals as goal

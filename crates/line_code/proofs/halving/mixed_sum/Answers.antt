@@ -1,5 +1,5 @@
 -- No pair, and one more.
-use Rattle.std.proofs.Common.{sym, ap, ◌∙◌, ap₂}
+use Rattle.std.proofs.Common.{sym, ◌∙◌, ap₂}
 use Rattle.extension.specs.Formulas.{embed}
 use Rattle.extension.specs.Extend.{extend}
 use Rattle.codeword.proofs.Sums.{total_none, total_more}

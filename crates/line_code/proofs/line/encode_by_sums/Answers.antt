@@ -1,5 +1,5 @@
 -- A line that is admitted is short and has small words.
-use Rattle.std.proofs.Common.{length, sym, ◌∙◌}
+use Rattle.std.proofs.Common.{length, sym}
 use Rattle.line_code.proofs.Words.{admitted}
 use Rattle.line_code.proofs.line.encode_by_sums.Goals as goal
 

@@ -1,8 +1,8 @@
--- The empty sums, and one more item.
-use Rattle.std.proofs.Common.{◌∙◌}
+-- The empty sums, one more item, and all of them.
+use Rattle.std.proofs.Common.{◌≡◌, length, ap, ◌∙◌, arith}
 use Rattle.extension.specs.Extend.{extend}
 use Rattle.codeword.proofs.Sums.{total_none}
-use Rattle.line_code.specs.Sums.{term}
+use Rattle.line_code.specs.Sums.{term, sums_of}
 use Rattle.line_code.proofs.Running.{sums_next}
 use Rattle.line_code.proofs.sums.plain_sums.Goals as goal
 
@@ -19,3 +19,8 @@ pub loop-item-preserved : goal.loop-item-preserved
 loop-item-preserved g c =
     c.with-sums.ensures
     ∙ sums_next g.F.Field.structure c.args.words.now c.loop-item.item c.loop-item.sums c.element.result c.point.result c.loop-item.invariant c.element.ensures c.point.ensures
+
+pub returns : goal.returns
+returns g c =
+    let all : c.loop-item.item ≡ length c.args.words.now = omega arith in
+    c.loop-item.invariant ∙ ap (sums_of g.F.Field.structure c.args.words.now) all
