@@ -36,7 +36,7 @@ part_of m bay = cond (nat_lt bay m.bays) (First bay) (Second (bay - m.bays))
 abbrev pub bay_place : Meaning → Meaning → ℕ → Result Part RackFault
 bay_place m n bay = answer (bay_refusal (side_by_side m n) bay) (part_of m bay)
 
--- As bay-place, where the line is tested too, and not whether the bay answers.
+-- As bay_place, where the line is tested too, and not whether the bay answers.
 abbrev pub cell_place : Meaning → Meaning → ℕ → ℕ → Result Part RackFault
 cell_place m n bay line =
     cond (nat_le (side_by_side m n).bays bay) (Err (NoBay bay))

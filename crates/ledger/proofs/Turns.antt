@@ -9,7 +9,7 @@ use Rattle.fault.specs.declared.fault.Fault.TheVariants.{Book, Rack}
 use Rattle.field.specs.Structure.{Structure, size}
 use Rattle.codeword.specs.Codeword.{words}
 use Rattle.rack.specs.Meaning.{Meaning}
-use Rattle.rack.specs.Calls.{bay_refusal, answer as rack-answer, after as rack_after, with_switch, with_bay, switch_answer, switch_after, exchange_after}
+use Rattle.rack.specs.Calls.{bay_refusal, answer as rack_answer, after as rack_after, with_switch, with_bay, switch_answer, switch_after, exchange_after}
 use Rattle.rack.proofs.Laws.{bay_accepted}
 use Rattle.call.specs.declared.Call.{Call}
 use Rattle.call.specs.declared.Call.TheVariants.{Post, Get, Off, On, Release, Seat, Mend}
@@ -146,11 +146,11 @@ module _ {K : Type 0} (s : Structure K) (room : ℕ) where
 
           go : (t : Bool) → leb l.bays bay ≡ t → (a ≡ answer l room c) × Stands s (after l room c) k drawer m'
           go true e =
-              let err : r ≡ Err (NoBay bay) = told ∙ ap (λ o. rack-answer o tt) (refusal true e) in
+              let err : r ≡ Err (NoBay bay) = told ∙ ap (λ o. rack_answer o tt) (refusal true e) in
               let same : m' ≡ m = rack ∙ ap (λ o. rack_after o m (with_switch m bay on)) (refusal true e) in
               refuses l c (Rack (NoBay bay)) (v ∙ ap (λ t. ruled (when t (Rack (NoBay bay)))) e) (rw err at is) (rw same st)
           go false e =
-              let ok : r ≡ Ok tt = told ∙ ap (λ o. rack-answer o tt) (refusal false e) in
+              let ok : r ≡ Ok tt = told ∙ ap (λ o. rack_answer o tt) (refusal false e) in
               let with : m' ≡ with_switch m bay on = rack ∙ ap (λ o. rack_after o m (with_switch m bay on)) (refusal false e) in
               accepts l c (v ∙ ap (λ t. ruled (when t (Rack (NoBay bay)))) e) ((rw ok at is) ∙ sym done)
               (rw (new, with) (switched_stands s l k drawer m sound st bay on))

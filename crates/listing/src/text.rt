@@ -1,7 +1,7 @@
 // Frames as text.
 ghost use Rattle.std.specs.Prelude.{◌≡◌, map, Some};
 ghost use Rattle.frame.specs.Format.{content, call as said};
-ghost use Rattle.listing.specs.Text.{visible as shown-as, says};
+ghost use Rattle.listing.specs.Text.{visible as shown_as, says};
 
 use frame::frame::{Call, Frame};
 use std::fmt;
@@ -11,7 +11,7 @@ use std::fmt;
 pub struct Printable<'a>(pub &'a [u8]);
 
 fn visible(byte: u8) -> char
-    ensures { result ≡ shown-as byte }
+    ensures { result ≡ shown_as byte }
 {
     match byte {
         32..=126 => byte as char,
@@ -20,7 +20,7 @@ fn visible(byte: u8) -> char
 }
 
 impl fmt::Display for Printable<'_> {
-    ghost output = { λ x. Some (map shown-as x.0.now) };
+    ghost output = { λ x. Some (map shown_as x.0.now) };
 
     fn fmt<W: fmt::Write>(&self, f: &mut fmt::Formatter<W>) -> fmt::Result {
         for byte in self.0 {

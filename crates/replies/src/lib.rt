@@ -2,7 +2,7 @@
 #![tactic(auto)]
 
 ghost use Rattle.std.specs.Prelude.{◌≡◌, ◌++◌, Some, string_bytes, OnOk};
-ghost use Rattle.replies.specs.Lines.{said, said_text, line as Line-of};
+ghost use Rattle.replies.specs.Lines.{said, said_text, line as line_of};
 
 use fault::fault::Fault;
 use listing::text::Printable;
@@ -46,7 +46,7 @@ pub fn add_line(
     number: usize,
     reply: Reply<'_>,
 ) -> Result<(), AllocError>
-    ensures { OnOk result (string_bytes text.new ≡ string_bytes text.old ++ Line-of number (said reply.entry)) }
+    ensures { OnOk result (string_bytes text.new ≡ string_bytes text.old ++ line_of number (said reply.entry)) }
 {
     let line = format!(in heap; "{number} {reply}\n")?;
     text.push_str(line.as_str())

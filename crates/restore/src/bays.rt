@@ -2,7 +2,7 @@
 ghost use Rattle.std.specs.Prelude.{◌≡◌, ℕ, ◌+◌, ◌<◌, ◌≤◌, length};
 ghost use Rattle.field.specs.Structure.{size};
 ghost use Rattle.codeword.specs.Sums.{count as tally};
-ghost use Rattle.distance.specs.Column.{column as column-of};
+ghost use Rattle.distance.specs.Column.{column as column_of};
 ghost use Rattle.elimination.specs.Places.{place};
 ghost use Rattle.restore.specs.Restored.{absent};
 ghost use Rattle.restore.specs.Absences.{Absences};
@@ -36,7 +36,7 @@ pub(crate) fn absent_bays(marks: &[u8]) -> Absent
 // The column of a bay: for each check word, what the bay's word is multiplied by in it.
 pub(crate) fn column<F: BaseField>(bay: usize) -> Four<Ext<F>>
     requires { bay < size F.Field.structure + 4 }
-    ensures { (k : ℕ) → k < 4 → place result k ≡ column-of F.Field.structure bay k }
+    ensures { (k : ℕ) → k < 4 → place result k ≡ column_of F.Field.structure bay k }
 {
     if bay < 4 {
         return Four::all(Ext::zero()).with(bay, Ext::one());

@@ -1,10 +1,10 @@
 // The words of the absent bays solve four equations, one for each check word.
 ghost use Rattle.std.specs.Prelude.{◌≡◌, ℕ, ◌+◌, ◌<◌, ◌≤◌, length, slice_index};
 ghost use Rattle.field.specs.Structure.{size};
-ghost use Rattle.distance.specs.Column.{column as column-of};
+ghost use Rattle.distance.specs.Column.{column as column_of};
 ghost use Rattle.elimination.specs.Places.{place};
 ghost use Rattle.restore.specs.Absences.{Absences};
-ghost use Rattle.restore.specs.Restored.{absent as IsAbsent-by, refusal, Restored, Admitted};
+ghost use Rattle.restore.specs.Restored.{absent as absent_by, refusal, Restored, Admitted};
 ghost use Rattle.restore.specs.System.{multiple_added, present_sum, Asks, Placed};
 
 use crate::bays::{Absent, absent_bays, column};
@@ -45,7 +45,7 @@ fn present_sums<F: BaseField>(words: &[u16], marks: &[u8]) -> Four<Ext<F>>
 fn unknown_column<F: BaseField>(absent: Absent, unknown: usize) -> Four<Ext<F>>
     requires four { (length absent.bays ≡ 4) × (absent.count ≤ 4) }
     requires below { (j : ℕ) → j < absent.count → slice_index absent.bays j < size F.Field.structure + 4 }
-    ensures { unknown < absent.count → (k : ℕ) → k < 4 → place result k ≡ column-of F.Field.structure (slice_index absent.bays unknown) k }
+    ensures { unknown < absent.count → (k : ℕ) → k < 4 → place result k ≡ column_of F.Field.structure (slice_index absent.bays unknown) k }
 {
     if unknown < absent.count {
         column(absent.bays[unknown])
@@ -57,7 +57,7 @@ fn unknown_column<F: BaseField>(absent: Absent, unknown: usize) -> Four<Ext<F>>
 // The four equations of the absent words.
 fn system<F: BaseField>(words: &[u16], marks: &[u8], absent: Absent) -> Four<Equation<Ext<F>>>
     requires admitted { Admitted F.Field.structure words.now marks.now }
-    requires listed { Absences (IsAbsent-by marks.now) (length words.now) absent.count absent.bays }
+    requires listed { Absences (absent_by marks.now) (length words.now) absent.count absent.bays }
     ensures { Asks F.Field.structure words.now marks.now absent.bays absent.count result }
 {
     let sums = present_sums::<F>(words, marks);

@@ -4,7 +4,7 @@ ghost use Rattle.fault.specs.declared.fault.Fault.TheVariants.{Book as BookLayer
 ghost use Rattle.field.specs.Structure.{size};
 ghost use Rattle.bank.specs.Drawers.{known_of, open_bay};
 ghost use Rattle.frame.specs.Reading.{told};
-ghost use Rattle.replies.specs.Lines.{said, done, line as Line-of};
+ghost use Rattle.replies.specs.Lines.{said, done, line as line_of};
 ghost use Rattle.round.specs.Replies.{room, first_ledger, why_hall, answer_reply};
 ghost use Rattle.round.specs.Tasks.{phase_of};
 ghost use Rattle.serve.specs.declared.serving.NotServed.TheVariants.{Memory, Refused};
@@ -151,7 +151,7 @@ pub fn serve<F: BaseField, W: Watch<F, Hall>>(
     text: &mut String,
     watch: &mut W,
 ) -> Result<(), NotServed>
-    ensures { MatchResult result (λ _. (why_hall (size F.Field.structure) items lines ≡ None) × Served F.Field.structure (known_of F.Field.structure) open_bay hall_meaning W.Watch.sees (first_ledger (size F.Field.structure) items lines) round.old (string_bytes text.old ++ Line-of number done) (string_bytes text.new) watch.old watch.new) (Unserved (why_hall (size F.Field.structure) items lines) ((round.new ≡ round.old) × (text.new ≡ text.old) × (watch.new ≡ watch.old))) }
+    ensures { MatchResult result (λ _. (why_hall (size F.Field.structure) items lines ≡ None) × Served F.Field.structure (known_of F.Field.structure) open_bay hall_meaning W.Watch.sees (first_ledger (size F.Field.structure) items lines) round.old (string_bytes text.old ++ line_of number done) (string_bytes text.new) watch.old watch.new) (Unserved (why_hall (size F.Field.structure) items lines) ((round.new ≡ round.old) × (text.new ≡ text.old) × (watch.new ≡ watch.old))) }
 {
     let items = items as usize;
     if items == 0 || items > F::order() as usize {

@@ -3,7 +3,7 @@
 
 ghost use Rattle.std.specs.Prelude.{◌≡◌, ℕ, ◌^◌};
 ghost use Rattle.field.specs.Structure.{size};
-ghost use Rattle.field.specs.Numbers.{product as product-of};
+ghost use Rattle.field.specs.Numbers.{product as product_of};
 ghost use Rattle.tower.specs.Tower.{Tower};
 ghost use Rattle.tower.specs.Product.{tower_product, numbers_answer, inverse_answer, Fixed};
 ghost use Rattle.tower.specs.Piles.{Grows, PilesAreTowers};
@@ -14,7 +14,7 @@ use field::{BaseField, Field};
 
 // The number of the product of the elements of two numbers. In a tower it is the product that the generators fix.
 pub fn product<F: Field>(a: u32, b: u32) -> Result<u32, BookFault>
-    ensures value { result ≡ numbers_answer (product-of F.structure) (size F.structure) a b }
+    ensures value { result ≡ numbers_answer (product_of F.structure) (size F.structure) a b }
     ensures tower { (m : ℕ) → Tower F.structure m → result ≡ numbers_answer (tower_product m) (2 ^ (2 ^ m)) a b }
 {
     let x = F::from_number(a)?;

@@ -3,7 +3,7 @@ use Rattle.std.proofs.Common.{◌≡◌, ℕ, ◌+◌, ◌-◌, ◌%◌, ◌<◌
 use Rattle.std.proofs.lemmas.Bool.Decides.{nat_tests}
 use Rattle.fault.specs.declared.fault.RackFault.{RackFault}
 use Rattle.field.specs.Structure.{Structure}
-use Rattle.codeword.specs.Codeword.{words as count-words}
+use Rattle.codeword.specs.Codeword.{words as count_words}
 use Rattle.rack.specs.Meaning.{Meaning, answers}
 use Rattle.rack.specs.Calls.{cell_refusal, read_answer}
 use Rattle.rack.proofs.Laws.{read_word, refused_by}
@@ -39,10 +39,10 @@ module _ {K : Type 0} (s : Structure K) (n : ℕ) (m : Meaning) (behind : ℕ �
         let off : highest n (present m.switch behind) (top - 1) ≡ false = grind (arith, nat_tests) in
         sofar_skip n _ _ top words marks kept so some most off
 
-    pub look_word : n + 4 ≤ 260 → kept < n → behind (top - 1) ≡ false → (word : ℕ) → asked ≡ Ok word → (counted : ℕ) → counted ≡ word % count-words s
+    pub look_word : n + 4 ≤ 260 → kept < n → behind (top - 1) ≡ false → (word : ℕ) → asked ≡ Ok word → (counted : ℕ) → counted ≡ word % count_words s
         → Next (set words (top - 1) counted) (set marks (top - 1) 0) (kept + 1)
     look_word few less ready word ok counted is =
         let told = read_word m (top - 1) line word (sym of_rack ∙ ok) in
         let on : present m.switch behind (top - 1) ≡ true = grind (arith, nat_tests, told.2, ready) in
         sofar_keep n _ _ top words marks kept so some most (highest_open n _ _ top words marks kept so some most less on) few counted
-        (is ∙ ap (λ w. w % count-words s) (sym told.3))
+        (is ∙ ap (λ w. w % count_words s) (sym told.3))

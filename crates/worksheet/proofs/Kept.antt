@@ -7,7 +7,7 @@ use Rattle.std.proofs.lemmas.Bool.Decides.{nat_tests}
 use Rattle.fault.specs.declared.fault.BookFault.{BookFault}
 use Rattle.field.specs.Structure.{Structure, size}
 use Rattle.codeword.specs.Sums.{count}
-use Rattle.codeword.specs.Codeword.{words as count-words, codeword, Line, Agrees}
+use Rattle.codeword.specs.Codeword.{words as count_words, codeword, Line, Agrees}
 use Rattle.distance.proofs.Theorem.{one_exists}
 use Rattle.restore.specs.Restored.{absent, first_large, refusal, Admitted, Whole, NoLine, Restored}
 use Rattle.worksheet.specs.Present.{highest}
@@ -28,7 +28,7 @@ admitted_none : {K : Type 0} (s : Structure K) (bays marks : List ℕ) → Admit
 admitted_none s bays marks ok =
     let sized : (ltb (length bays) 5 || ltb (size s + 4) (length bays)) ≡ false = sizes (length bays) (size s + 4) ok.some ok.fits in
     let paired : not (eqb (length marks) (length bays)) ≡ false = pairs (length marks) (length bays) ok.marked in
-    let small : first_large (count-words s) bays marks ≡ None = none_large (count-words s) bays marks ok.small in
+    let small : first_large (count_words s) bays marks ≡ None = none_large (count_words s) bays marks ok.small in
     let few : ltb 4 (count (absent marks) (length bays)) ≡ false = least (count (absent marks) (length bays)) ok.few in
     rw (sized, paired, small, few)
   where
@@ -48,7 +48,7 @@ made_whole s bays marks (Ok u) after restored some = (refl, restored)
 made_whole s bays marks (Err f) after restored some = absurd (some restored.2)
 
 module _ {K : Type 0} (s : Structure K) (n : ℕ) (here : ℕ → Bool) (word : ℕ → ℕ) (words marks : List ℕ) (kept : ℕ) (found : Surveyed n here word words marks kept)
-    (some : 1 ≤ n) (fits : n ≤ size s) (room : n + 4 ≤ 260) (enough : n ≤ kept) (small : (bay : ℕ) → word bay < count-words s) where
+    (some : 1 ≤ n) (fits : n ≤ size s) (room : n + 4 ≤ 260) (enough : n ≤ kept) (small : (bay : ℕ) → word bay < count_words s) where
   bays : List ℕ
   bays = take (n + 4) words
 

@@ -8,7 +8,7 @@ use Rattle.fault.specs.declared.fault.BookFault.TheVariants.{TooManyAbsent}
 use Rattle.field.specs.Structure.{Structure, size}
 use Rattle.extension.specs.Extend.{extend}
 use Rattle.codeword.specs.Sums.{count}
-use Rattle.codeword.specs.Codeword.{words as count-words, codeword}
+use Rattle.codeword.specs.Codeword.{words as count_words, codeword}
 use Rattle.restore.specs.Restored.{refusal, Restored}
 use Rattle.rack.specs.Meaning.{Meaning}
 use Rattle.worksheet.specs.Present.{present, absent, absences}
@@ -47,8 +47,8 @@ module _ {K : Type 0} (s : Structure K) (m : Meaning) (behind : ℕ → Bool) (s
       let few : absences m.switch behind m.bays ≤ 4 = omega (arith, gone, here) in
       grind (arith, nat_tests)
 
-  small : (bay : ℕ) → word_at s m line bay < count-words s
-  small bay = mod-lt (m.word bay line) {m = count-words s} (omega (arith, (extend s).value_lt (extend s).zero))
+  small : (bay : ℕ) → word_at s m line bay < count_words s
+  small bay = mod-lt (m.word bay line) {m = count_words s} (omega (arith, (extend s).value_lt (extend s).zero))
 
   -- the words were copied onto the sheet, and restored there
   module _ (copied : List ℕ) (copy : copied ≡ take bays words) (most : bays ≤ 260) (enough : bays - 4 ≤ kept) where

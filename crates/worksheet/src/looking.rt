@@ -1,6 +1,6 @@
 // A look at the bays of a rack, from the top one down, until enough of them are found present.
 ghost use Rattle.std.specs.Prelude.{◌≡◌, ◌+◌, ◌%◌, ◌<◌, ◌≤◌};
-ghost use Rattle.codeword.specs.Codeword.{words as count-words};
+ghost use Rattle.codeword.specs.Codeword.{words as count_words};
 ghost use Rattle.worksheet.specs.Present.{present};
 ghost use Rattle.worksheet.specs.Lines.{marked, word_at};
 ghost use Rattle.worksheet.specs.Looking.{Surveyed};
@@ -11,7 +11,7 @@ use rack::sides::{MOST_BAYS, Reading};
 
 // A rack's word as a count word: its remainder by q·q.
 pub fn count_word<F: BaseField>(word: u16) -> u16
-    ensures { result ≡ word % count-words F.Field.structure }
+    ensures { result ≡ word % count_words F.Field.structure }
 {
     (word as u32 % Ext::<F>::order()) as u16
 }

@@ -2,7 +2,7 @@
 ghost use Rattle.std.specs.Prelude.{◌≡◌, ◌<◌};
 ghost use Rattle.extension.specs.Piles.{gf256};
 ghost use Rattle.table_field.specs.Equals.{Equals};
-ghost use Rattle.table_field.specs.Table.{table256 as the-table, power_number};
+ghost use Rattle.table_field.specs.Table.{table256 as the_table, power_number};
 ghost use Rattle.std.proofs.Common.{rules, arith};
 
 use crate::table256::Table256;
@@ -34,7 +34,7 @@ fn logarithm(n: u8) -> usize
 }
 
 impl Field for Table256 {
-    ghost structure = { the-table };
+    ghost structure = { the_table };
 
     ghost fits = { first_of (Prim.search rules, Prim.grind (arith, Self.row.coded.inj)) };
 
@@ -91,5 +91,5 @@ impl BaseField for Table256 {
 
 // The table field equals the pile of 256 elements in number, sum, product, inverse and constant.
 pub fn table_equals_pile()
-    ensures { Equals the-table gf256 }
+    ensures { Equals the_table gf256 }
 {}
