@@ -2,7 +2,7 @@
 use Rattle.std.proofs.Common.{◌≡◌, ℕ, ◌+◌, ◌-◌, ◌%◌, ◌<◌, ◌≤◌, Bool, true, false, cond, not, ◌&&◌, ◌||◌, eqb, ltb, List, get_or, set, Some, None, Option, sym, refl, ap, ◌∙◌, subst, inl, inr, arith, get_or-set_other}
 use Rattle.std.proofs.lemmas.Bool.{both_ways, not-true, not-false, and_parts, and_from, and_left, and_right, and_cases, or_parts, not_from_false, cond-true, cond-false, lt-ltb, ltb-false, eq-eqb, ne_eqb, eqb-false, cases_eq, cases_lt, cases_Bool}
 use Rattle.std.proofs.lemmas.Bool.Decides.{nat_tests}
-use Rattle.field.specs.Structure.{Structure, size}
+use Rattle.field.specs.Structure.{Structure}
 use Rattle.codeword.specs.Sums.{count}
 use Rattle.codeword.specs.Codeword.{words, codeword}
 use Rattle.codeword.proofs.Counts.{count_ext}

@@ -6,7 +6,7 @@ use Rattle.fault.specs.declared.fault.RackFault.{RackFault}
 use Rattle.fault.specs.declared.fault.RackFault.TheVariants.{NoBay}
 use Rattle.fault.specs.declared.fault.Fault.{Fault}
 use Rattle.fault.specs.declared.fault.Fault.TheVariants.{Book, Rack}
-use Rattle.field.specs.Structure.{Structure, size}
+use Rattle.field.specs.Structure.{Structure}
 use Rattle.codeword.specs.Codeword.{words}
 use Rattle.rack.specs.Meaning.{Meaning}
 use Rattle.rack.specs.Calls.{bay_refusal, answer as rack_answer, after as rack_after, with_switch, with_bay, switch_answer, switch_after, exchange_after}

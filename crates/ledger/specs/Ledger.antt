@@ -1,6 +1,6 @@
 -- The ledger of a bank. It is fed the sizes and the switches as the start finds them, and then each call; it is told no answer
 -- of the book. Assumes nothing.
-use Rattle.std.specs.Prelude.{ℕ, zero, suc, ◌+◌, ◌*◌, Bool, true, false, cond, not, ◌&&◌, List, [], ◌∷◌, Some, None, Option, ◌==◌, nat_le, nat_lt}
+use Rattle.std.specs.Prelude.{ℕ, ◌+◌, ◌*◌, Bool, true, false, cond, not, ◌&&◌, List, [], ◌∷◌, Some, None, Option, ◌==◌, nat_le, nat_lt}
 use Rattle.fault.specs.Refusing.{when}
 use Rattle.fault.specs.declared.fault.BookFault.{BookFault}
 use Rattle.fault.specs.declared.fault.RackFault.TheVariants.{NoBay}

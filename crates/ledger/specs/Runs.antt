@@ -1,8 +1,8 @@
 -- Whole runs, in the words of the calls, the answers and the states between them. Assumes nothing.
-use Rattle.std.specs.Prelude.{◌≡◌, ℕ, ◌+◌, ◌<◌, ◌≤◌, Bool, true, false, ◌⊎◌, List, length, get_or, take, Some, None, Option, slice_index, slice_index_or}
+use Rattle.std.specs.Prelude.{◌≡◌, ℕ, ◌+◌, ◌<◌, ◌≤◌, true, ◌⊎◌, List, length, get_or, take, None, Option, slice_index, slice_index_or}
 use Rattle.fault.specs.declared.fault.Fault.{Fault}
-use Rattle.field.specs.Structure.{Structure, size}
-use Rattle.codeword.specs.Codeword.{codeword, words, Line}
+use Rattle.field.specs.Structure.{Structure}
+use Rattle.codeword.specs.Codeword.{codeword, Line}
 use Rattle.worksheet.specs.Present.{present}
 use Rattle.worksheet.specs.Lines.{word_at}
 use Rattle.rack.specs.Meaning.{Meaning}

@@ -1,5 +1,5 @@
 -- When a book and a rack are as the ledger has them. Assumes nothing.
-use Rattle.std.specs.Prelude.{◌≡◌, ℕ, zero, suc, ◌+◌, ◌*◌, ◌<◌, ◌≤◌, Bool, true, false, List, [], ◌∷◌, Some, None, Option, slice_index}
+use Rattle.std.specs.Prelude.{◌≡◌, ℕ, zero, suc, ◌+◌, ◌*◌, ◌<◌, ◌≤◌, true, false, List, [], ◌∷◌, Some, None, Option, slice_index}
 use Rattle.field.specs.Structure.{Structure, size}
 use Rattle.codeword.specs.Sums.{count}
 use Rattle.codeword.specs.Codeword.{codeword}
