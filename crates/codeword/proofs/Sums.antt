@@ -1,13 +1,12 @@
 -- The laws of sums over all numbers below a bound. Assumes nothing.
 use mathlib.Core.Path.{◌≡◌, refl, sym, ap, ap₂, ◌∙◌}
-use mathlib.Core.Bool.{Bool, true, false, cond}
-use Prim.Native.Nat.{ℕ, zero, suc, ◌+◌, ◌≤◌, ◌<◌}
+use Prim.Native.Nat.{ℕ, zero, suc, ◌+◌, ◌<◌}
 use native.Mathlib.Omega.{arith}
 use native.Mathlib.Numerals.{add-one}
 use native.Mathlib.Decide.{ℕ_discrete}
 use Rattle.ring2.proofs.Laws.{exchange, times_zero, zero_plus}
-use Rattle.field.specs.Structure.{Structure, ops}
-use Rattle.codeword.specs.Sums.{total, count}
+use Rattle.field.specs.Structure.{Structure}
+use Rattle.codeword.specs.Sums.{total}
 
 module _ {K : Type 0} (s : Structure K) where
   pub total_none : (f : ℕ → K) → total s f 0 ≡ s.zero
