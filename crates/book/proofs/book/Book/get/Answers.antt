@@ -12,7 +12,7 @@ pub returns-in_err-admit_cell : goal.returns-in_err-admit_cell
 returns-in_err-admit_cell g c =
     let fault = c.in_err-admit_cell.field-0.0 in
     let told = c.in_err-admit_cell.ensures in
-    let by = passed c.from-residual.result fault c.from-residual.ensures.1 in
+    let by = passed c.from_residual.result fault c.from_residual.ensures.1 in
     record { refused = refused_by _ fault _ by (no_get (knows g.F.Field.structure c.args.self.now) (front_of (g.R.Reading.meaning c.args.rack.now)) (length c.args.sheet.now) c.args.item c.args.line fault told.refused); gives = in_refusal _ fault _ _ by refl; long = refl; after = told.after }
 
 pub present_word-requires : goal.present_word-requires
@@ -45,7 +45,7 @@ returns-in_err-restore_line g c =
     let why = not_got s k m (length c.args.sheet.now) c.args.item c.args.line (items_fit s c.args.self.now.last) (sym c.in_ok-admit_cell.ensures.refused)
     _ admitted (sym c.in_default.ensures.word) _ same (Some c.in_err-restore_line.field-0.0) c.in_err-restore_line.ensures.refused in
     let fault = c.in_err-restore_line.field-0.0 in
-    let by = passed c.from-residual-in_err-restore_line.result fault c.from-residual-in_err-restore_line.ensures.1 in
+    let by = passed c.from_residual-in_err-restore_line.result fault c.from_residual-in_err-restore_line.ensures.1 in
     let left = c.in_err-restore_line.ensures.then in
     record {
       refused = refused_by _ fault _ by why;

@@ -41,7 +41,7 @@ returns-in_err-restore_line g c =
     let fault = c.in_err-restore_line.field-0.0 in
     let told = mend_refused s k m bay ok.behind sheet c.loop-line.line c.loop-line.sheet (g.R.Reading.meaning c.loop-line.rack) c.loop-line.invariant ok (omega (arith, ok.lines)) (omega arith) (items_fit s c.args.self.now.last)
     fault c.in_err-restore_line.ensures.refused in
-    let by = passed c.from-residual-in_err-restore_line.result (Book fault) c.from-residual-in_err-restore_line.ensures.1 in
+    let by = passed c.from_residual-in_err-restore_line.result (Book fault) c.from_residual-in_err-restore_line.ensures.1 in
     let left = c.in_err-restore_line.ensures.then ∙ told.2 in
     record {
       refused = refused_by _ (Book fault) _ by (told.0 ∙ ap (λ (x : Meaning). why_mend k (front_of x) (length sheet) bay) same);

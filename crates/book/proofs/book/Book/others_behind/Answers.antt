@@ -8,8 +8,8 @@ use Rattle.book.proofs.book.Book.others_behind.Goals.{then-self-other+then-other
 pub loop-other-init : goal.loop-other-init
 loop-other-init g c = sym (count_none (λ b. marked c.args.self.now.behind b && not (eqb b c.args.bay)))
 
-pub overflow-add-count : goal.overflow-add-count
-overflow-add-count g c = omega (arith, count_le (λ b. marked c.args.self.now.behind b && not (eqb b c.args.bay)) c.loop-other.other, c.loop-other.invariant)
+pub overflow_add-count : goal.overflow_add-count
+overflow_add-count g c = omega (arith, count_le (λ b. marked c.args.self.now.behind b && not (eqb b c.args.bay)) c.loop-other.other, c.loop-other.invariant)
 
 pub loop-other-preserved : goal.loop-other-preserved
 loop-other-preserved g c =

@@ -12,7 +12,7 @@ use Rattle.book.proofs.book.Book.post.Goals as goal
 pub returns-in_err-restore_line : goal.returns-in_err-restore_line
 returns-in_err-restore_line g c =
     let s = g.F.Field.structure in
-    let left = c.from-residual-in_err-restore_line.ensures in
+    let left = c.from_residual-in_err-restore_line.ensures in
     let refused = c.in_err-restore_line.ensures in
     let same = c.in_ok-admit_cell.ensures.after in
     let small : c.args.word < words s = omega (arith, c.order.ensures) in
