@@ -1,13 +1,10 @@
 -- The drawer of a bank, as the ledger sees it. Assumes nothing.
-use Rattle.std.specs.Prelude.{◌≡◌, ℕ, ◌⊎◌, List, Some, None, Option}
-use Rattle.fault.specs.declared.fault.BookFault.{BookFault}
-use Rattle.fault.specs.declared.fault.Fault.{Fault}
-use Rattle.field.specs.Structure.{Structure, size}
+use Rattle.std.specs.Prelude.{◌≡◌, ℕ, Some, None, Option}
+use Rattle.field.specs.Structure.{Structure}
 use Rattle.rack.specs.Meaning.{Meaning}
 use Rattle.rules.specs.Known.{Known, front_of}
 use Rattle.rules.specs.Rules.{why_start}
 use Rattle.book.specs.declared.book.Book.{Book}
-use Rattle.book.specs.declared.drawer.OpenBook.{OpenBook}
 use Rattle.book.specs.Known.{knows}
 use Rattle.call.specs.declared.Call.{Call}
 use Rattle.ledger.specs.declared.Answer.{Answer}

@@ -1,11 +1,10 @@
-use Rattle.std.proofs.Common.{◌≡◌, ℕ, ◌+◌, ◌<◌, length, get_or, take, vec_items, vec_len, vec_capacity, sym, refl, ap, ◌∙◌, subst, arith}
+use Rattle.std.proofs.Common.{◌+◌, length, get_or, vec_items, sym, refl, ap, ◌∙◌, subst, arith}
 use Rattle.std.proofs.lemmas.List.{get_or_default}
-use Rattle.field.specs.Structure.{size}
 use Rattle.book.specs.Known.{knows}
 use Rattle.call.specs.declared.Call.TheVariants.{Post, Seat}
 use Rattle.ledger.proofs.Histories.{history_at, history_none, history_step, history_all}
 use Rattle.bank.specs.Drawers.{known_of, open_bay, Turned}
-use Rattle.bank.proofs.Starts.{first_of, same_first, first_sound, first_stands}
+use Rattle.bank.proofs.Starts.{same_first, first_sound, first_stands}
 use Rattle.bank.proofs.runs.run.Goals as goal
 
 pub push_reserved-requires : goal.push_reserved-requires

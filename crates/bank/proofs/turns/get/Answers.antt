@@ -1,4 +1,4 @@
-use Rattle.std.proofs.Common.{◌≡◌, length, Ok, Err, refl, ap, ◌∙◌}
+use Rattle.std.proofs.Common.{length, Ok, Err, refl, ap, ◌∙◌}
 use Rattle.ledger.specs.declared.Answer.TheVariants.{Refused}
 use Rattle.book.specs.Known.{knows}
 use Rattle.ledger.proofs.Turns.{turn_get}

@@ -1,4 +1,4 @@
-use Rattle.std.proofs.Common.{◌≡◌, length, Ok, Err, refl, ap, ◌∙◌}
+use Rattle.std.proofs.Common.{length, Ok, Err, ap}
 use Rattle.book.specs.Known.{knows}
 use Rattle.ledger.proofs.Turns.{turn_mend}
 use Rattle.bank.specs.declared.drawers.Drawer.TheVariants.{Closed}

@@ -1,4 +1,4 @@
-use Rattle.std.proofs.Common.{◌≡◌, Ok, Err, sym, refl, ap, ◌∙◌}
+use Rattle.std.proofs.Common.{Ok, Err, sym, refl, ap, ◌∙◌}
 use Rattle.ledger.specs.declared.Answer.TheVariants.{Refused}
 use Rattle.rack.specs.Calls.{bay_refusal}
 use Rattle.rack.proofs.Laws.{after_refused, refused_by}

@@ -1,4 +1,4 @@
-use Rattle.std.proofs.Common.{◌≡◌, None, sym, ap, subst}
+use Rattle.std.proofs.Common.{None, sym, ap, subst}
 use Rattle.fault.specs.declared.fault.Fault.{Fault}
 use Rattle.call.specs.declared.Call.TheVariants.{Release}
 use Rattle.ledger.specs.declared.Answer.TheVariants.{Refused}

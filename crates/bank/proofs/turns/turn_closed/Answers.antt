@@ -1,4 +1,4 @@
-use Rattle.std.proofs.Common.{◌≡◌, length, sym, refl, ap, subst}
+use Rattle.std.proofs.Common.{length, refl}
 use Rattle.bank.proofs.Done.{then_also}
 use Rattle.bank.proofs.turns.turn_closed.Goals as goal
 

@@ -1,4 +1,4 @@
-use Rattle.std.proofs.Common.{◌≡◌, sym, refl, ap, subst, inl, inr}
+use Rattle.std.proofs.Common.{refl, inl, inr}
 use Rattle.book.specs.Known.{knows}
 use Rattle.ledger.proofs.Turns.{open_get, open_post, open_mend, open_release}
 use Rattle.bank.proofs.turns.turn_open.Goals as goal
