@@ -1,9 +1,9 @@
 -- What a loop over the frames of a round keeps. Assumes nothing.
-use Rattle.std.proofs.Common.{◌≡◌, ℕ, ◌+◌, ◌⊎◌, List, [], ◌∷◌, ◌++◌, sym, refl, ap, ◌∙◌, subst, subst₂, inl, inr, append_assoc, append-nil}
+use Rattle.std.proofs.Common.{◌≡◌, ℕ, List, [], ◌∷◌, ◌++◌, sym, refl, ap, ◌∙◌, subst, subst₂, inl, inr, append_assoc, append-nil}
 use Rattle.call.specs.declared.Call.{Call}
-use Rattle.frame.specs.Reading.{Answer as Heard, told, bytes_left}
+use Rattle.frame.specs.Reading.{Answer as Heard, told}
 use Rattle.frame.proofs.Laws.{laid_none}
-use Rattle.replies.specs.Lines.{Said, line, lines_from}
+use Rattle.replies.specs.Lines.{line, lines_from}
 use Rattle.round.specs.declared.rounds.Round.{Round}
 use Rattle.round.specs.declared.rounds.Placed.{Placed}
 use Rattle.round.specs.Replies.{State, end_of, reply, next, replies, call_in, calls}

@@ -1,30 +1,38 @@
-use Rattle.std.proofs.Common.{ℕ, ◌<◌, List, length, get_or, sym, refl, ap, subst, arith}
+use Rattle.std.proofs.Common.{ℕ, ◌<◌, List, length, slice_index, sym, refl, ap, subst, arith}
 use Rattle.round.proofs.Steps.{onward, stays, reads_then, reads_place, reads_end}
 use Rattle.round.proofs.rounds.Round.read.Goals as goal
 
-pub invariant-of-self : goal.invariant-of-self
-invariant-of-self c =
+pub invariant_of-self : goal.invariant_of-self
+invariant_of-self c =
     let still = stays c.args.self.now.reader c.next.new.self c.next.result c.next.ensures.steps c.in_err-answer.was in
     let same = c.next.ensures.steps.0 in
     let old = c.args.self.now in
-    (omega (arith, still, old.counted), (omega (arith, old.fits, ap length same), (λ i. subst (λ (file : List ℕ). get_or file i 0 < 256) (sym same) (old.bytes i), tt)))
+    record {
+      counted = omega (arith, still, old.counted);
+      fits = omega (arith, old.fits, ap length same);
+      bytes = λ i. subst (λ (file : List ℕ). slice_index file i < 256) (sym same) (old.bytes i);
+    }
 
-pub overflow-add-self : goal.overflow-add-self
-overflow-add-self c =
+pub overflow_add-self : goal.overflow_add-self
+overflow_add-self c =
     let on = onward c.args.self.now.reader c.next.new.self c.next.result c.next.ensures.steps (c.in_ok-answer.ensures.goes.on tt).2 in
     omega (arith, on, c.args.self.now.counted, c.next.new.self.within, ap length c.next.ensures.steps.0)
 
-pub invariant-of-self-2 : goal.invariant-of-self-2
-invariant-of-self-2 c =
+pub invariant_of-self-2 : goal.invariant_of-self-2
+invariant_of-self-2 c =
     let on = onward c.args.self.now.reader c.next.new.self c.next.result c.next.ensures.steps (c.in_ok-answer.ensures.goes.on tt).2 in
     let same = c.next.ensures.steps.0 in
     let old = c.args.self.now in
-    (omega (arith, on, old.counted), (omega (arith, old.fits, ap length same), (λ i. subst (λ (file : List ℕ). get_or file i 0 < 256) (sym same) (old.bytes i), tt)))
+    record {
+      counted = omega (arith, on, old.counted);
+      fits = omega (arith, old.fits, ap length same);
+      bytes = λ i. subst (λ (file : List ℕ). slice_index file i < 256) (sym same) (old.bytes i);
+    }
 
 pub returns-in_err-answer : goal.returns-in_err-answer
 returns-in_err-answer c =
     let ends = reads_end c.args.self.now.reader c.next.new.self c.next.result c.next.ensures.steps c.in_err-answer.was in
-    rw c.from-residual.ensures ends
+    rw c.from_residual.ensures ends
 
 pub returns : goal.returns
 returns c =
