@@ -1,13 +1,12 @@
 -- A name and what stands behind it, and the frames that they say. Assumes nothing.
-use Rattle.std.proofs.Common.{◌≡◌, ℕ, ◌<◌, ◌≤◌, Bool, true, false, cond, ◌&&◌, eqb, leb, List, [], ◌∷◌, ◌++◌, map, get_or, Some, None, decimal, Option, sym, refl, ap, ◌∙◌, subst, subst₂, arith}
+use Rattle.std.proofs.Common.{◌≡◌, ℕ, true, cond, eqb, List, [], ◌∷◌, ◌++◌, map, get_or, Some, None, decimal, Option, sym, refl, ap, ◌∙◌, subst, subst₂, arith}
 use Rattle.std.proofs.lemmas.Bool.Decides.{nat_tests}
-use Rattle.call.specs.declared.Call.{Call}
 use Rattle.call.specs.declared.Call.TheVariants as call
 use Rattle.frame.specs.Format.{Content, start, call, note, unknown}
 use Rattle.listing.specs.Text.{visible, pair_text, three_text, says}
 use Rattle.parsing.specs.declared.name.Name.{Name}
 use Rattle.parsing.specs.declared.name.Name.TheVariants.{Start, Post, Get, Off, On, Release, Seat, Mend, Note}
-use Rattle.parsing.specs.Line.{NoteText, Sayable, Says, Noted}
+use Rattle.parsing.specs.Line.{Sayable, Says, Noted}
 use Rattle.parsing.specs.Names.{spelled}
 use Rattle.parsing.specs.Numbers.{One, Two, Three}
 use Rattle.parsing.specs.Splits.{front_of, back_of, behind, within}

@@ -1,5 +1,5 @@
 -- The numbers of a line. Assumes nothing.
-use Rattle.std.specs.Prelude.{◌≡◌, ℕ, ◌<◌, ◌≤◌, Bool, not, ◌&&◌, ◌||◌, List, length, Some, Ok, Err, decimal, Option, Result, ◌==◌, nat_lt, slice_index}
+use Rattle.std.specs.Prelude.{◌≡◌, ℕ, ◌<◌, Bool, not, ◌&&◌, ◌||◌, List, length, Some, Ok, Err, decimal, Option, Result, ◌==◌, nat_lt, slice_index}
 use Rattle.listing.specs.Text.{pair_text, three_text}
 use Rattle.parsing.specs.Splits.{within}
 

@@ -6,12 +6,12 @@ use Rattle.parsing.proofs.number.three.Goals as goal
 
 pub returns-in_err-x : goal.returns-in_err-x
 returns-in_err-x c =
-    let p = err_from_is_err_and c.from-residual.result c.from-residual.ensures.1 in
+    let p = err_from_is_err_and c.from_residual.result c.from_residual.ensures.1 in
     refused _ _ _ p.1 (three_front _ _ _ _ (ap (option_map (λ x. x.now)) c.in-Some.is) c.split.ensures.front c.split.ensures.back c.in_err-x.ensures)
 
 pub returns-in_err-y : goal.returns-in_err-y
 returns-in_err-y c =
-    let p = err_from_is_err_and c.from-residual-in_err-y.result c.from-residual-in_err-y.ensures.1 in
+    let p = err_from_is_err_and c.from_residual-in_err-y.result c.from_residual-in_err-y.ensures.1 in
     refused _ _ _ p.1 (three_back _ _ _ _ (ap (option_map (λ x. x.now)) c.in-Some.is) c.split.ensures.front c.split.ensures.back c.in_err-y.ensures)
 
 pub returns : goal.returns

@@ -3,18 +3,18 @@ use Rattle.std.specs.Str.Parse.{digits_value}
 use Rattle.parsing.proofs.Figures.{within_at, value_small, value_next}
 use Rattle.parsing.proofs.number.value.Goals as goal
 
-pub overflow-mul-total : goal.overflow-mul-total
-overflow-mul-total c = omega (arith, c.loop-digit.invariant, value_small c.args.digits.now c.loop-digit.digit-index c.requires.digits c.requires.few)
+pub overflow_mul-total : goal.overflow_mul-total
+overflow_mul-total c = omega (arith, c.loop-digit.invariant, value_small c.args.digits.now c.loop-digit.digit-index c.requires.digits c.requires.few)
 
-pub overflow-sub-digit : goal.overflow-sub-digit
-overflow-sub-digit c = (within_at 48 57 c.args.digits.now c.loop-digit.digit-index c.requires.digits c.loop-digit-test.true).0
+pub overflow_sub-digit : goal.overflow_sub-digit
+overflow_sub-digit c = (within_at 48 57 c.args.digits.now c.loop-digit.digit-index c.requires.digits c.loop-digit-test.true).0
 
-pub overflow-add-total : goal.overflow-add-total
-overflow-add-total c =
+pub overflow_add-total : goal.overflow_add-total
+overflow_add-total c =
     omega (
       arith,
       c.loop-digit.invariant,
-      c.type-inv.digits c.loop-digit.digit-index,
+      c.type_inv.digits c.loop-digit.digit-index,
       value_small c.args.digits.now c.loop-digit.digit-index c.requires.digits c.requires.few,
     )
 
