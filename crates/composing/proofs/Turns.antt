@@ -1,5 +1,5 @@
 -- What the loop over the lines of a text keeps. Assumes nothing.
-use Rattle.std.proofs.Common.{◌≡◌, ℕ, ◌+◌, ◌<◌, ◌≤◌, Bool, true, false, cond, not, eqb, leb, List, [], ◌∷◌, ◌++◌, map, length, Some, None, Ok, Err, Option, Result, sym, refl, ap, ◌∙◌, subst, subst₂, append_assoc, append-nil, arith, length-append}
+use Rattle.std.proofs.Common.{◌≡◌, ℕ, ◌+◌, ◌<◌, ◌≤◌, Bool, true, false, cond, not, eqb, List, [], ◌∷◌, ◌++◌, map, length, Some, None, Ok, Option, sym, refl, ap, ◌∙◌, subst, append_assoc, append-nil, arith, length-append}
 use Rattle.std.proofs.lemmas.List.Elements.{filter-append}
 use Rattle.std.proofs.ByRecursion.{All-push}
 use Rattle.std.proofs.lemmas.List.{length_push, map_push, flat_map_more}
@@ -7,9 +7,7 @@ use Rattle.std.proofs.lemmas.Bool.Decides.{nat_tests}
 use Rattle.std.specs.List.{flat_map, AllByRecursion as All}
 use Rattle.std.specs.Option.{ok_or}
 use Rattle.fault.specs.declared.fault.FileFault.TheVariants.{BodyLength}
-use Rattle.call.specs.declared.Call.TheVariants as call
 use Rattle.frame.specs.Format.{Content, start, call, note, unknown, kind_of, body_of, bytes_of, proper}
-use Rattle.frame.specs.Reading.{Answer}
 use Rattle.listing.specs.Text.{says}
 use Rattle.frame.specs.Laid.{Laid, ended, frame, Answered}
 use Rattle.frame.proofs.Laws.{meant_back, laid_same}

@@ -3,7 +3,6 @@ use Rattle.std.specs.Prelude.{◌≡◌, ℕ, ◌+◌, ◌<◌, ◌≤◌, Bool,
 use Rattle.std.specs.List.{flat_map, AllByRecursion as All}
 use Rattle.std.specs.declared.alloc.Global.{Global}
 use Rattle.frame.specs.Format.{Content, bytes_of}
-use Rattle.frame.specs.Reading.{Answer}
 use Rattle.listing.specs.Text.{says}
 use Rattle.frame.specs.Laid.{Answered}
 use Rattle.parsing.specs.Line.{Sayable, Says}

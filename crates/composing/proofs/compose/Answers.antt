@@ -36,7 +36,7 @@ loop-rest-smaller c = shrinks c.loop-rest.invariant _ _ _ (ap (option_map (λ x.
 pub loop-rest-preserved : goal.loop-rest-preserved
 loop-rest-preserved c =
     let bytes = c.in-Ok-encode.ensures.bytes.1 in
-    let file = pushed c.as_slice.result.now refl c.in_ok-extend_from_slice.was c.extend_from_slice.ensures.items
+    let file = pushed c.as_slice.result.now refl c.in_ok-extend_from_slice-in-Ok.was c.extend_from_slice.ensures.items
     ∙ ap (λ (l : List ℕ). vec_items c.loop-rest.file ++ l) (c.as_slice.ensures.value ∙ bytes) in
     turn_more c.loop-rest.invariant _ _ _ (ap (option_map (λ x. x.now)) c.in-Some.is) c.split.ensures.front c.split.ensures.back
     (sym c.if-is_silent.ensures) (content c.in-Ok.frame) _ c.in-Ok.ensures file
