@@ -1,5 +1,5 @@
 -- One frame, by the task that it is. Assumes nothing.
-use Rattle.std.proofs.Common.{◌≡◌, ℕ, Bool, true, false, cond, Some, None, Ok, Err, Option, sym, refl, ap, ◌∙◌, subst, arith}
+use Rattle.std.proofs.Common.{◌≡◌, ℕ, Bool, true, false, cond, Some, None, Ok, Err, Option, sym, refl, ap, subst, arith}
 use Rattle.call.specs.declared.Call.{Call}
 use Rattle.call.specs.declared.Call.TheVariants.{Post, Get, Off, On, Release, Seat, Mend}
 use Rattle.frame.specs.Format.{start, call, note, unknown}
@@ -12,10 +12,8 @@ use Rattle.ledger.specs.declared.Answer.TheVariants.{NotAllowed}
 use Rattle.ledger.specs.Stands.{Turn}
 use Rattle.ledger.proofs.Turns.{open_get, open_post, open_mend, open_release, closed_seat}
 use Rattle.replies.specs.Lines.{Said}
-use Rattle.round.specs.declared.tasks.Phase.{Phase}
-use Rattle.round.specs.declared.tasks.Phase.TheVariants.{Waiting, Closed, Open}
 use Rattle.round.specs.Replies.{room, not_now, answer_reply}
-use Rattle.round.specs.Tasks.{Asked, open_hall, make, say, allowed, task, phase_of}
+use Rattle.round.specs.Tasks.{open_hall, make, say, allowed, task, phase_of}
 use Rattle.serve.specs.Served.{Answered}
 
 -- A call that the drawer bars.

@@ -1,5 +1,5 @@
 -- What the loop over the rest of a round keeps. Assumes nothing.
-use Rattle.std.proofs.Common.{◌≡◌, ℕ, List, [], ◌∷◌, ◌++◌, Ok, Err, Option, sym, refl, ap, ◌∙◌, subst, subst₂, append-nil}
+use Rattle.std.proofs.Common.{◌≡◌, ℕ, List, [], ◌∷◌, ◌++◌, Ok, Err, Option, sym, refl, ap, ◌∙◌, subst, append-nil}
 use Rattle.call.specs.declared.Call.{Call}
 use Rattle.frame.specs.Format.{start, call, note, unknown}
 use Rattle.frame.specs.Reading.{Answer as Heard, told}
@@ -7,7 +7,7 @@ use Rattle.field.specs.Structure.{Structure}
 use Rattle.rack.specs.Meaning.{Meaning}
 use Rattle.rules.specs.Known.{Known}
 use Rattle.ledger.specs.declared.Answer.{Answer}
-use Rattle.ledger.specs.Ledger.{Ledger, answer, after_all}
+use Rattle.ledger.specs.Ledger.{Ledger, after_all}
 use Rattle.ledger.specs.Stands.{Sound, Stands}
 use Rattle.ledger.specs.Runs.{History}
 use Rattle.ledger.proofs.LastPosts.{after_more}

@@ -1,8 +1,8 @@
 -- A hall that opens: its racks can be made, its book starts, and both stand by the first ledger. Assumes nothing.
-use Rattle.std.proofs.Common.{◌≡◌, ℕ, zero, suc, ◌+◌, ◌*◌, ◌<◌, ◌≤◌, Bool, true, false, cond, not, ◌&&◌, ◌||◌, eqb, ltb, leb, Some, None, Option, sym, refl, ap, ◌∙◌, subst, subst₂, zero-add, arith}
+use Rattle.std.proofs.Common.{◌≡◌, ℕ, zero, suc, ◌+◌, ◌≤◌, false, not, ltb, None, sym, refl, ap, ◌∙◌, subst, zero-add, arith}
 use Rattle.std.proofs.lemmas.Bool.Decides.{nat_tests}
 use Rattle.codeword.specs.Sums.{count}
-use Rattle.distance.proofs.Chosen.{count_ext}
+use Rattle.codeword.proofs.Counts.{count_ext}
 use Rattle.field.specs.Structure.{Structure, size}
 use Rattle.rack.specs.Meaning.{Meaning}
 use Rattle.rules.specs.Known.{Known, front_of}

@@ -1,4 +1,4 @@
-use Rattle.std.proofs.Common.{◌≡◌, ◌+◌, sym, ap, ◌∙◌}
+use Rattle.std.proofs.Common.{◌+◌, ◌∙◌}
 use Rattle.joined_rack.specs.Beside.{beside}
 use Rattle.serve.proofs.Racks.{beside_zeros, any_bays}
 use Rattle.serve.proofs.halls.make_hall.Goals as goal

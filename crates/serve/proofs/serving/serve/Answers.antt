@@ -1,4 +1,4 @@
-use Rattle.std.proofs.Common.{◌≡◌, ℕ, ◌≤◌, List, ◌++◌, Some, None, string_bytes, Option, sym, refl, ap, ◌∙◌, subst, arith}
+use Rattle.std.proofs.Common.{◌≡◌, ℕ, ◌≤◌, List, ◌++◌, Some, None, string_bytes, Option, refl, ap, ◌∙◌, subst, arith}
 use Rattle.fault.specs.declared.fault.BookFault.{BookFault}
 use Rattle.field.specs.Structure.{size}
 use Rattle.book.specs.Known.{knows}

@@ -1,4 +1,4 @@
-use Rattle.std.proofs.Common.{string_bytes, sym, refl, ap, ◌∙◌, subst}
+use Rattle.std.proofs.Common.{string_bytes, refl, ◌∙◌}
 use Rattle.bank.specs.Drawers.{known_of, open_bay}
 use Rattle.replies.specs.Lines.{said}
 use Rattle.serve.proofs.Going.{going_none, going_more, going_end}
