@@ -4,7 +4,7 @@ use Rattle.std.proofs.lemmas.List.Elements.{filter-append}
 use Rattle.std.proofs.ByRecursion.{All-push}
 use Rattle.std.proofs.lemmas.List.{length_push, map_push, flat_map_more}
 use Rattle.std.proofs.lemmas.Bool.Decides.{nat_tests}
-use Rattle.std.specs.List.{flat_map, AllByRecursion as All}
+use Rattle.std.specs.List.{flat_map, AllByRecursion}
 use Rattle.std.specs.Option.{ok_or}
 use Rattle.fault.specs.declared.fault.FileFault.TheVariants.{BodyLength}
 use Rattle.frame.specs.Format.{Content, start, call, note, unknown, kind_of, body_of, bytes_of, proper}
@@ -39,19 +39,19 @@ sayable_proper (note text) s = let l = s.some in let h = s.short in grind (arith
 sayable_proper (unknown kind body) s = absurd s
 
 -- The frames, one behind the other, are a file that answers with them.
-laid_all : (contents : List Content) (offset : ℕ) → All Sayable contents → Laid offset (flat_map bytes_of contents) (map (λ c. Ok c) contents)
+laid_all : (contents : List Content) (offset : ℕ) → AllByRecursion Sayable contents → Laid offset (flat_map bytes_of contents) (map (λ c. Ok c) contents)
 laid_all [] offset s = ended refl
 laid_all (c ∷ contents) offset s =
     subst (λ o. Laid offset (bytes_of c ++ flat_map bytes_of contents) (ok_or o (BodyLength offset) ∷ map (λ c. Ok c) contents)) (sym (meant_back c (sayable_proper c s.0)))
     (frame (kind_of c) (body_of c) (flat_map bytes_of contents) refl (laid_all contents _ s.1))
 
-answered_all : (file : List ℕ) (contents : List Content) → file ≡ flat_map bytes_of contents → All Sayable contents → Answered file (map (λ c. Ok c) contents)
+answered_all : (file : List ℕ) (contents : List Content) → file ≡ flat_map bytes_of contents → AllByRecursion Sayable contents → Answered file (map (λ c. Ok c) contents)
 answered_all file contents e s =
     let laid = subst (λ (l : List ℕ). Laid 0 l (map (λ c. Ok c) contents)) (sym e) (laid_all contents 0 s) in
     record { laid = laid; only = λ others l. laid_same laid l }
 
 -- The frames are fixed by the lines.
-texts_same : (contents others : List Content) → map says contents ≡ map says others → All Sayable contents → All Sayable others → others ≡ contents
+texts_same : (contents others : List Content) → map says contents ≡ map says others → AllByRecursion Sayable contents → AllByRecursion Sayable others → others ≡ contents
 texts_same [] [] e s t = refl
 texts_same [] (d ∷ others) e s t = absurd (grind arith)
 texts_same (c ∷ contents) [] e s t = absurd (grind arith)

@@ -1,6 +1,6 @@
 -- A round that is written as text, and the round file of its calls. Assumes nothing.
 use Rattle.std.specs.Prelude.{◌≡◌, ℕ, ◌+◌, ◌<◌, ◌≤◌, Bool, true, false, cond, not, List, [], ◌∷◌, ◌++◌, map, length, Ok, Err, vec_items, filter, Result, Vec, ◌==◌}
-use Rattle.std.specs.List.{flat_map, AllByRecursion as All}
+use Rattle.std.specs.List.{flat_map, AllByRecursion}
 use Rattle.std.specs.declared.alloc.Global.{Global}
 use Rattle.frame.specs.Format.{Content, bytes_of}
 use Rattle.listing.specs.Text.{says}
@@ -29,7 +29,7 @@ kept lines = filter (λ line. not (silent line)) lines
 -- The lines that say something are the texts of these frames, one for each, in their order.
 pub record Told (lines : List (List ℕ)) (contents : List Content) : Type 0 where
   pub texts : kept lines ≡ map says contents
-  pub sayable : All Sayable contents
+  pub sayable : AllByRecursion Sayable contents
 
 -- Reading the file gives back the frames of the text, and no refusal. The text has these frames, and no others.
 pub record Composed (text file : List ℕ) : Type 0 where
