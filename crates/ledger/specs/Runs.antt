@@ -1,5 +1,5 @@
 -- Whole runs, in the words of the calls, the answers and the states between them. Assumes nothing.
-use Rattle.std.specs.Prelude.{◌≡◌, ℕ, ◌+◌, ◌<◌, ◌≤◌, true, ◌⊎◌, List, length, get_or, take, None, Option, slice_index, slice_index_or}
+use Rattle.std.specs.Prelude.{◌≡◌, ℕ, ◌+◌, ◌<◌, ◌≤◌, true, ◌⊎◌, List, length, take, None, Option, slice_index, slice_index_or}
 use Rattle.fault.specs.declared.fault.Fault.{Fault}
 use Rattle.field.specs.Structure.{Structure}
 use Rattle.codeword.specs.Codeword.{codeword, Line}
@@ -45,7 +45,7 @@ module _ {K : Type 0} (s : Structure K) where
     pub other_line : Line s l.items other
     pub one_fits : FitsPresent l m line one
     pub other_fits : FitsPresent l m line other
-    pub differ : get_or one item 0 ≡ slice_index other item → ⊥
+    pub differ : slice_index one item ≡ slice_index other item → ⊥
 
   -- The calls were made one by one, and after the start and after each of them the drawer and the rack were shown to a watcher:
   -- the drawers and racks that it was shown, what it was before each look, and at the end what is left.
