@@ -1,5 +1,5 @@
 -- The frames before an accepted start. Assumes nothing.
-use Rattle.std.proofs.Common.{◌≡◌, ℕ, List, [], ◌++◌, drop, sym, refl, ap, ◌∙◌, subst, subst₂}
+use Rattle.std.proofs.Common.{◌≡◌, ℕ, List, [], ◌++◌, drop, refl, ap, ◌∙◌, subst, subst₂}
 use Rattle.call.specs.declared.Call.{Call}
 use Rattle.frame.specs.Reading.{told}
 use Rattle.frame.specs.Laid.{Laid}
