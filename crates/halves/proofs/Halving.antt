@@ -1,13 +1,27 @@
 -- Runs by halves: which terms and bits they depend on, and the steps from 2^m items to 2^(m + 1). Assumes nothing.
-use Rattle.std.proofs.Common.{◌≡◌, ℕ, zero, suc, ◌+◌, ◌^◌, ◌<◌, Bool, true, false, cond, eqb, refl, ap, ◌∙◌, ap₂, pow-suc, arith, eq-eqb, ne_eqb}
+use Rattle.std.proofs.Common.{◌≡◌, ℕ, zero, suc, ◌+◌, ◌^◌, ◌<◌, Bool, true, false, cond, eqb, sym, refl, ap, ◌∙◌, ap₂, pow-suc, arith, eq-eqb, ne_eqb}
 use Rattle.ring2.proofs.Laws.{plus_times}
 use Rattle.field.specs.Structure.{Structure}
 use Rattle.codeword.specs.Sums.{total}
 use Rattle.codeword.proofs.Sums.{total_suc, total_ext, total_plus}
 use Rattle.halves.specs.Runs.{none, one, two, upper, run}
+use Rattle.halves.specs.Gathered.{run_by}
 
 pub twice : (m : ℕ) → 2 ^ suc m ≡ 2 ^ m + 2 ^ m
 twice m = pow-suc 2 m ∙ omega arith
+
+pub same : (t : Bool) → cond t true false ≡ t
+same true = refl
+same false = refl
+
+-- a run by any sum depends on its 2^m items alone
+pub run_by_ext : {K : Type 0} (plus : K → K → K) (set : ℕ → Bool) (m : ℕ) (f g : ℕ → K)
+    → ((i : ℕ) → i < 2 ^ m → f i ≡ g i) → run_by plus set m f ≡ run_by plus set m g
+unfolding run_by
+run_by_ext plus set zero f g e = e 0 (omega arith)
+run_by_ext plus set (suc m) f g e =
+    ap₂ (λ a b. cond (set m) b (plus a b)) (run_by_ext plus set m f g (λ i h. e i (omega (arith, twice m))))
+    (run_by_ext plus set m (upper m f) (upper m g) (λ i h. e (2 ^ m + i) (omega (arith, twice m))))
 
 module _ {K : Type 0} (s : Structure K) where
   pub run_word : (set : ℕ → Bool) (f : ℕ → K) → run s set 0 f ≡ f 0
@@ -22,13 +36,15 @@ module _ {K : Type 0} (s : Structure K) where
   unfolding run
   run_both set m f e = rw e
 
-  -- the run depends on its 2^m items alone
+  -- a run is the run by the structure's sum
+  pub run_is : (set : ℕ → Bool) (m : ℕ) (f : ℕ → K) → run s set m f ≡ run_by s.plus set m f
+  unfolding run run_by
+  run_is set zero f = refl
+  run_is set (suc m) f = ap₂ (λ a b. cond (set m) b (s.plus a b)) (run_is set m f) (run_is set m (upper m f))
+
+  -- so it depends on its 2^m items alone
   pub run_ext : (set : ℕ → Bool) (m : ℕ) (f g : ℕ → K) → ((i : ℕ) → i < 2 ^ m → f i ≡ g i) → run s set m f ≡ run s set m g
-  unfolding run
-  run_ext set zero f g e = e 0 (omega arith)
-  run_ext set (suc m) f g e =
-      ap₂ (λ a b. cond (set m) b (s.plus a b)) (run_ext set m f g (λ i h. e i (omega (arith, twice m))))
-      (run_ext set m (upper m f) (upper m g) (λ i h. e (2 ^ m + i) (omega (arith, twice m))))
+  run_ext set m f g e = run_is set m f ∙ run_by_ext s.plus set m f g e ∙ sym (run_is set m g)
 
   -- and on the set's bits below m
   pub run_set : (a b : ℕ → Bool) (m : ℕ) (f : ℕ → K) → ((i : ℕ) → i < m → a i ≡ b i) → run s a m f ≡ run s b m f
@@ -67,10 +83,6 @@ module _ {K : Type 0} (s : Structure K) where
     two_top j h =
         run_upper (two j m) m f (ap (λ t. cond t true (eqb m m)) (ne_eqb m j (λ e. omega arith)) ∙ eq-eqb m m refl)
         ∙ run_set (two j m) (one j) m (upper m f) (λ i l. ap (cond (eqb i j) true) (ne_eqb i m (λ e. omega arith)) ∙ same (eqb i j))
-      where
-        same : (t : Bool) → cond t true false ≡ t
-        same true = refl
-        same false = refl
 
   -- the sums over bits and over pairs of bits, by halves
   pub singles_step : (c : ℕ → K) (m : ℕ) (f : ℕ → K)

@@ -1,3 +1,6 @@
 pub mod Words
 pub mod Running
 pub mod Parts
+pub mod Weighing
+pub mod Halfway
+pub mod Filled

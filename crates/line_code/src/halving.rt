@@ -37,7 +37,7 @@ fn sum_over<F: BaseField>(words: &[u16], exponent: u32, set: BitSet) -> Ext<F>
 }
 
 // v_j, the base element numbered 2^j.
-fn bit<F: BaseField>(j: u32) -> F
+pub(crate) fn bit<F: BaseField>(j: u32) -> F
     requires { j < F.Field.structure.bits }
     ensures { result ≡ bit F.Field.structure j }
 {
@@ -45,7 +45,7 @@ fn bit<F: BaseField>(j: u32) -> F
 }
 
 // v_j²·v_k + v_j·v_k², as v_j·v_k·(v_j + v_k).
-fn mixed<F: BaseField>(j: u32, k: u32) -> F
+pub(crate) fn mixed<F: BaseField>(j: u32, k: u32) -> F
     requires { (j < F.Field.structure.bits) × (k < F.Field.structure.bits) }
     ensures { result ≡ mixed F.Field.structure j k }
 {
@@ -126,7 +126,7 @@ fn by_u<F: BaseField>(x: Ext<F>) -> Ext<F>
 
 impl<F: BaseField> Sums<F> {
     // From the sums of d·w^l those of d·(w + u)^l.
-    fn shifted(self) -> Sums<F>
+    pub(crate) fn shifted(self) -> Sums<F>
         ensures { result ≡ shifted_sums F.Field.structure self }
     {
         let once = by_u(self.zeroth);

@@ -4,18 +4,39 @@ ghost use Rattle.line_code.specs.Answers.{encode_answer, encode_after};
 ghost use Rattle.line_code.specs.Worked.{AllHold, worked};
 
 use crate::admit::admit;
+use crate::bits::exponent;
+use crate::encoder::Encoder;
 use crate::halving::sums_by_halves;
 use crate::sums::plain_sums;
 use fault::fault::BookFault;
 use field::BaseField;
 
-// Writes the four check words of a line to the first four places of the list, and nothing else.
-// By the definition: the compiled code was measured to be the faster of the two, at 256 items in both fields of 256 elements.
+// Over the table field the definition was measured to be the faster way for lines with fewer items than this.
+const FEW: usize = 4;
+
+// Writes the four check words of a line to the first four places of the list, and nothing else. A line of few items
+// is encoded by the definition, any other from its sums gathered in place.
 pub fn encode<F: BaseField>(words: &[u16], checks: &mut [u16]) -> Result<(), BookFault>
     ensures answer { result ≡ encode_answer F.Field.structure words.now (length checks.old) }
     ensures after { checks.new ≡ encode_after F.Field.structure words.now checks.old }
 {
+    if words.len() >= FEW {
+        return encode_gathered::<F>(words, checks);
+    }
     encode_by_sums::<F>(words, checks)
+}
+
+// The same by an encoder with constants for the bits of the line's item numbers alone.
+fn encode_gathered<F: BaseField>(words: &[u16], checks: &mut [u16]) -> Result<(), BookFault>
+    ensures answer { result ≡ encode_answer F.Field.structure words.now (length checks.old) }
+    ensures after { checks.new ≡ encode_after F.Field.structure words.now checks.old }
+{
+    admit::<F>(words, checks.len())?;
+    let bits = exponent(words.len());
+    Encoder::<F>::for_bits(bits)
+        .line_sums(words, bits)
+        .write(checks);
+    Ok(())
 }
 
 // The same by the definition, item by item.
