@@ -3,16 +3,12 @@ use Rattle.std.specs.Prelude.{ℕ, List, [], ◌∷◌, ◌++◌, codes, decimal
 use Rattle.fault.specs.Letters.{letter_of}
 use Rattle.fault.specs.declared.layer.Layer.{Layer}
 use Rattle.fault.specs.declared.layer.Layer.TheVariants as layer
+use Rattle.fault.specs.declared.fault.Row.{Row}
 use Rattle.fault.specs.declared.fault.FileFault.TheVariants.{CutShort, BodyLength, NotNow, NoField}
 use Rattle.fault.specs.declared.fault.BookFault.TheVariants.{ItemCount, OtherRack, ListLength, TooManySilent, NoItem, NoLine, WordTooLarge, NoBay, FourBehind, NotBehind, TooManyAbsent, NoElement, NoCodeword}
 use Rattle.fault.specs.declared.fault.RackFault.TheVariants as rack
 use Rattle.fault.specs.declared.fault.Fault.{Fault}
 use Rattle.fault.specs.declared.fault.Fault.TheVariants.{File, Book, Rack}
-
-pub record Row : Type 0 where
-  pub layer : Layer
-  pub number : ℕ
-  pub place : ℕ
 
 abbrev pub refusal : Layer → ℕ → ℕ → Row
 refusal l n p = record { layer = l; number = n; place = p }

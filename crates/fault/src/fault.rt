@@ -69,131 +69,110 @@ pub enum Fault {
     Rack(RackFault),
 }
 
-impl FileFault {
-    fn number(self) -> u8
-        ensures { result ≡ (row (File self)).number }
-    {
-        match self {
-            FileFault::CutShort(_) => 31,
-            FileFault::BodyLength(_) => 32,
-            FileFault::NotNow(_) => 33,
-            FileFault::NoField(_) => 34,
-        }
-    }
+// A row of the refusal table.
+#[derive(Clone, Copy)]
+struct Row {
+    layer: Layer,
+    number: u8,
+    place: usize,
+}
 
-    fn place(self) -> usize
-        ensures { result ≡ (row (File self)).place }
+impl FileFault {
+    fn row(self) -> Row
+        ensures { result ≡ row (File self) }
     {
+        let row = |number, place| Row {
+            layer: Layer::File,
+            number,
+            place,
+        };
         match self {
-            FileFault::CutShort(offset) => offset,
-            FileFault::BodyLength(offset) => offset,
-            FileFault::NotNow(offset) => offset,
-            FileFault::NoField(offset) => offset,
+            FileFault::CutShort(offset) => row(31, offset),
+            FileFault::BodyLength(offset) => row(32, offset),
+            FileFault::NotNow(offset) => row(33, offset),
+            FileFault::NoField(offset) => row(34, offset),
         }
     }
 }
 
 impl BookFault {
-    fn number(self) -> u8
-        ensures { result ≡ (row (Book self)).number }
+    fn row(self) -> Row
+        ensures { result ≡ row (Book self) }
     {
+        let row = |number, place| Row {
+            layer: Layer::Book,
+            number,
+            place,
+        };
         match self {
-            BookFault::ItemCount(_) => 1,
-            BookFault::OtherRack(_) => 2,
-            BookFault::ListLength(_) => 3,
-            BookFault::TooManySilent(_) => 4,
-            BookFault::NoItem(_) => 5,
-            BookFault::NoLine(_) => 6,
-            BookFault::WordTooLarge(_) => 7,
-            BookFault::NoBay(_) => 8,
-            BookFault::FourBehind(_) => 9,
-            BookFault::NotBehind(_) => 10,
-            BookFault::TooManyAbsent(_) => 11,
-            BookFault::NoElement(_) => 12,
-            BookFault::NoCodeword => 13,
-        }
-    }
-
-    fn place(self) -> usize
-        ensures { result ≡ (row (Book self)).place }
-    {
-        match self {
-            BookFault::ItemCount(count) => count,
-            BookFault::OtherRack(bays) => bays,
-            BookFault::ListLength(length) => length,
-            BookFault::TooManySilent(count) => count,
-            BookFault::NoItem(item) => item,
-            BookFault::NoLine(line) => line,
-            BookFault::WordTooLarge(word) => word,
-            BookFault::NoBay(bay) => bay,
-            BookFault::FourBehind(bay) => bay,
-            BookFault::NotBehind(bay) => bay,
-            BookFault::TooManyAbsent(count) => count,
-            BookFault::NoElement(number) => number,
-            BookFault::NoCodeword => 0,
+            BookFault::ItemCount(count) => row(1, count),
+            BookFault::OtherRack(bays) => row(2, bays),
+            BookFault::ListLength(length) => row(3, length),
+            BookFault::TooManySilent(count) => row(4, count),
+            BookFault::NoItem(item) => row(5, item),
+            BookFault::NoLine(line) => row(6, line),
+            BookFault::WordTooLarge(word) => row(7, word),
+            BookFault::NoBay(bay) => row(8, bay),
+            BookFault::FourBehind(bay) => row(9, bay),
+            BookFault::NotBehind(bay) => row(10, bay),
+            BookFault::TooManyAbsent(count) => row(11, count),
+            BookFault::NoElement(number) => row(12, number),
+            BookFault::NoCodeword => row(13, 0),
         }
     }
 }
 
 impl RackFault {
-    fn number(self) -> u8
-        ensures { result ≡ (row (Rack self)).number }
+    fn row(self) -> Row
+        ensures { result ≡ row (Rack self) }
     {
+        let row = |number, place| Row {
+            layer: Layer::Rack,
+            number,
+            place,
+        };
         match self {
-            RackFault::NoBay(_) => 21,
-            RackFault::NoLine(_) => 22,
-            RackFault::Silent(_) => 23,
-            RackFault::BadShape(_) => 24,
-            RackFault::NoJoin(_) => 25,
-        }
-    }
-
-    fn place(self) -> usize
-        ensures { result ≡ (row (Rack self)).place }
-    {
-        match self {
-            RackFault::NoBay(bay) => bay,
-            RackFault::NoLine(line) => line,
-            RackFault::Silent(bay) => bay,
-            RackFault::BadShape(words) => words,
-            RackFault::NoJoin(bays) => bays,
+            RackFault::NoBay(bay) => row(21, bay),
+            RackFault::NoLine(line) => row(22, line),
+            RackFault::Silent(bay) => row(23, bay),
+            RackFault::BadShape(words) => row(24, words),
+            RackFault::NoJoin(bays) => row(25, bays),
         }
     }
 }
 
 impl Fault {
+    fn row(self) -> Row
+        ensures { result ≡ row self }
+    {
+        match self {
+            Fault::File(fault) => fault.row(),
+            Fault::Book(fault) => fault.row(),
+            Fault::Rack(fault) => fault.row(),
+        }
+    }
+
     pub fn layer(self) -> Layer
         ensures { result ≡ (row self).layer }
     {
-        match self {
-            Fault::File(_) => Layer::File,
-            Fault::Book(_) => Layer::Book,
-            Fault::Rack(_) => Layer::Rack,
-        }
+        self.row().layer
     }
 
     pub fn number(self) -> u8
         ensures { result ≡ (row self).number }
     {
-        match self {
-            Fault::File(fault) => fault.number(),
-            Fault::Book(fault) => fault.number(),
-            Fault::Rack(fault) => fault.number(),
-        }
+        self.row().number
     }
 
     pub fn place(self) -> usize
         ensures { result ≡ (row self).place }
     {
-        match self {
-            Fault::File(fault) => fault.place(),
-            Fault::Book(fault) => fault.place(),
-            Fault::Rack(fault) => fault.place(),
-        }
+        self.row().place
     }
 }
 
 // A layer's own fault becomes a fault by `?`, with its layer, number and place.
+// Each conversion is written out, since a derived `From` says nothing of its result, and a caller's contract needs it.
 impl From<FileFault> for Fault {
     ghost from_gives = { λ x r. r ≡ File x };
 
@@ -223,10 +202,12 @@ impl fmt::Display for Fault {
     ghost output = { λ x. Some (printed (row x)) };
 
     fn fmt<W: fmt::Write>(&self, f: &mut fmt::Formatter<W>) -> fmt::Result {
-        let letter = self.layer().letter();
-        let number = self.number();
-        let place = self.place();
-        write!(f, "{letter} {number} {place}")
+        let Row {
+            layer,
+            number,
+            place,
+        } = self.row();
+        write!(f, "{layer} {number} {place}")
     }
 }
 

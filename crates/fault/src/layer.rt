@@ -1,6 +1,10 @@
 // The three layers that refuse calls, and the letter by which each is printed.
-ghost use Rattle.std.specs.Prelude.{◌≡◌, Some};
-ghost use Rattle.fault.specs.Letters.{letter_of, layer_of};
+ghost use Rattle.std.specs.Prelude.{◌≡◌, ◌++◌, [], ◌∷◌, Some, codes};
+ghost use Rattle.fault.specs.Letters.{letter_of, layer_of, Decodes};
+ghost use lib.Utf8.{encode};
+
+use std::error::Error;
+use std::fmt;
 
 #[derive(Clone, Copy, PartialEq, Eq, Debug)]
 pub enum Layer {
@@ -12,28 +16,51 @@ pub enum Layer {
     Rack,
 }
 
-impl Layer {
-    pub fn letter(self) -> char
-        ensures value { result ≡ letter_of self }
-        ensures back { layer_of result ≡ Some self }
-    {
-        match self {
+// A letter that stands for no layer.
+#[derive(Clone, Copy, PartialEq, Eq, Debug)]
+pub struct NoLayer(pub char);
+
+impl From<Layer> for char {
+    ghost from_gives = { λ layer letter. (letter ≡ letter_of layer) × (layer_of letter ≡ Some layer) };
+
+    fn from(layer: Layer) -> char {
+        match layer {
             Layer::File => 'f',
             Layer::Book => 'b',
             Layer::Rack => 'r',
         }
     }
+}
 
-    // The layer that a letter stands for, if it stands for one.
-    pub fn from_letter(letter: char) -> Option<Layer>
-        ensures value { result ≡ layer_of letter }
-        ensures back { (layer : Layer) → result ≡ Some layer → letter_of layer ≡ letter }
-    {
+impl TryFrom<char> for Layer {
+    type Error = NoLayer;
+
+    ghost try_from_gives = { Decodes };
+
+    fn try_from(letter: char) -> Result<Layer, NoLayer> {
         match letter {
-            'f' => Some(Layer::File),
-            'b' => Some(Layer::Book),
-            'r' => Some(Layer::Rack),
-            _ => None,
+            'f' => Ok(Layer::File),
+            'b' => Ok(Layer::Book),
+            'r' => Ok(Layer::Rack),
+            _ => Err(NoLayer(letter)),
         }
     }
 }
+
+impl fmt::Display for Layer {
+    ghost output = { λ layer. Some (letter_of layer ∷ []) };
+
+    fn fmt<W: fmt::Write>(&self, f: &mut fmt::Formatter<W>) -> fmt::Result {
+        f.write_char(char::from(*self))
+    }
+}
+
+impl fmt::Display for NoLayer {
+    ghost output = { λ fault. Some (codes "no layer has the letter " ++ encode fault.0) };
+
+    fn fmt<W: fmt::Write>(&self, f: &mut fmt::Formatter<W>) -> fmt::Result {
+        write!(f, "no layer has the letter {}", self.0)
+    }
+}
+
+impl Error for NoLayer {}

@@ -10,10 +10,10 @@ use std::io;
 // A fault as its layer's letter, its number and its place.
 pub(crate) fn show_fault(rt: &HostRuntime, fault: RackFault) -> io::Result<()> {
     let fault = Fault::from(fault);
-    let letter = fault.layer().letter();
+    let layer = fault.layer();
     let number = fault.number();
     let place = fault.place();
-    println!(rt; "no {letter} {number} {place}")
+    println!(rt; "no {layer} {number} {place}")
 }
 
 pub(crate) fn show_answer(
