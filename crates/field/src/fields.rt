@@ -1,11 +1,12 @@
 // A finite field of characteristic two whose elements are numbered from 0.
-ghost use Rattle.std.specs.Prelude.{◌≡◌, ◌≤◌};
+ghost use Rattle.std.specs.Prelude.{◌≡◌, ◌<◌, ◌≤◌};
 ghost use Rattle.field.specs.Structure.{Structure, size};
 ghost use Rattle.field.specs.Numbers.{element_answer};
 
 use fault::fault::BookFault;
 
 // Its values are the elements. The structure is the field's meaning: the operations with their laws.
+// What follows from an element's number has a body here, which a field may replace by a faster one.
 pub trait Field: Copy {
     ghost structure: { Structure Self };
 
@@ -14,24 +15,44 @@ pub trait Field: Copy {
         ensures { result ≡ size structure };
 
     // The element of a number below q.
-    fn from_number(n: u32) -> Result<Self, BookFault>
-        ensures { result ≡ element_answer structure n };
+    fn element(n: u32) -> Self
+        requires { n < size structure }
+        ensures { result ≡ structure.of n };
 
     fn number(self) -> u32
         ensures { result ≡ structure.value self };
 
+    // The element of a number, if it is below q. Not a `TryFrom`, which each field would have to write out.
+    fn from_number(n: u32) -> Result<Self, BookFault>
+        ensures { result ≡ element_answer structure n }
+    {
+        if n >= Self::order() {
+            return Err(BookFault::NoElement(n as usize));
+        }
+        Ok(Self::element(n))
+    }
+
     fn zero() -> Self
-        ensures { result ≡ structure.zero };
+        ensures { result ≡ structure.zero }
+    {
+        Self::element(0)
+    }
 
     fn one() -> Self
-        ensures { result ≡ structure.one };
+        ensures { result ≡ structure.one }
+    {
+        Self::element(1)
+    }
 
     // The constant v by which the field is extended: u u = u + v.
     fn constant() -> Self
         ensures { result ≡ structure.v };
 
     fn plus(self, other: Self) -> Self
-        ensures { result ≡ structure.plus self other };
+        ensures { result ≡ structure.plus self other }
+    {
+        Self::element(self.number() ^ other.number())
+    }
 
     fn times(self, other: Self) -> Self
         ensures { result ≡ structure.times self other };
