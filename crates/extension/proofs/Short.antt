@@ -1,9 +1,9 @@
 -- The short forms that the code computes are those of the definition. Assumes nothing.
-use Rattle.std.proofs.Common.{◌≡◌, [], ◌∷◌, ap, ◌∙◌}
-use Rattle.ring2.proofs.Solve.{var, nought, ◌⊕◌, ◌⊗◌, ex, solve}
-use Rattle.field.specs.Structure.{Structure, ops}
+use Rattle.std.proofs.Common.{◌≡◌, [], ◌∷◌}
+use Rattle.ring2.proofs.Solve.{var, nought, ◌⊕◌, ◌⊗◌, ex}
+use Rattle.field.specs.Structure.{Structure}
 use Rattle.extension.specs.declared.ext.Ext.{Ext}
-use Rattle.extension.specs.Formulas.{pair, over, norm, conjugate_times, embed}
+use Rattle.extension.specs.Formulas.{pair, over, embed}
 use Rattle.extension.specs.Laws.{solve2, X, Y, E}
 use Rattle.extension.specs.Extend.{extend}
 
@@ -23,12 +23,3 @@ module _ {K : Type 0} (s : Structure K) where
   product_is x y =
       solve2 s.ring (x.lo ∷ x.hi ∷ y.lo ∷ y.hi ∷ y.lo ∷ y.hi ∷ s.v ∷ [])
       (pair (var 0 ⊗ var 2 ⊕ var 1 ⊗ var 3 ⊗ var 6) ((var 0 ⊕ var 1) ⊗ (var 2 ⊕ var 3) ⊕ var 0 ⊗ var 2)) (E.times X Y) tt tt
-
-  -- an inverse: the norm as a (a + b) + b b v
-  pub inverse_is : (x : Ext K) (m : K)
-      → m ≡ s.plus (s.times x.lo (s.plus x.lo x.hi)) (s.times (s.times x.hi x.hi) s.v)
-      → conjugate_times (ops s) (s.inverse m) x ≡ (extend s).inverse x
-  unfolding extend
-  inverse_is x m e =
-      ap (λ k. conjugate_times (ops s) (s.inverse k) x)
-      (e ∙ solve s.ring (x.lo ∷ x.hi ∷ s.v ∷ []) (var 0 ⊗ (var 0 ⊕ var 1) ⊕ var 1 ⊗ var 1 ⊗ var 2) (norm ex (var 2) X) tt)

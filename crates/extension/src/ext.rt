@@ -4,7 +4,6 @@ ghost use Rattle.extension.specs.Extend.{extend};
 ghost use Rattle.extension.specs.Formulas.{embed, root_u};
 ghost use Rattle.std.proofs.Common.{arith};
 
-use fault::fault::BookFault;
 use field::{BaseField, Field};
 
 // The element lo + hi u; its number is lo's plus q times hi's.
@@ -14,17 +13,19 @@ pub struct Ext<F> {
     pub hi: F,
 }
 
-impl<F: BaseField> Ext<F> {
-    // An element of the base field.
-    pub fn from_base(a: F) -> Ext<F>
-        ensures { result ≡ embed F.Field.structure a }
-    {
+// An element of the base field.
+impl<F: BaseField> From<F> for Ext<F> {
+    ghost from_gives = { λ a r. r ≡ embed F.Field.structure a };
+
+    fn from(a: F) -> Ext<F> {
         Ext {
             lo: a,
             hi: F::zero(),
         }
     }
+}
 
+impl<F: BaseField> Ext<F> {
     // The new element u.
     pub fn u() -> Ext<F>
         ensures { result ≡ root_u F.Field.structure }
@@ -36,6 +37,7 @@ impl<F: BaseField> Ext<F> {
     }
 
     // The product with an element of the base field: two products there.
+    #[tactic(auto, using(crate::proofs::Short::scaled_is))]
     pub fn scaled(self, by: F) -> Ext<F>
         ensures { result ≡ (extend F.Field.structure).times self (embed F.Field.structure by) }
     {
@@ -46,23 +48,24 @@ impl<F: BaseField> Ext<F> {
     }
 }
 
+#[tactic(auto, unfolding(crate::specs::Extend::extend))]
 impl<F: BaseField> Field for Ext<F> {
     ghost structure = { extend F.Field.structure };
 
     ghost fits = { unfold extend in omega (arith, F.BaseField.small) };
 
+    #[tactic(auto, using(crate::proofs::Parts::order_is))]
     fn order() -> u32 {
         F::order() * F::order()
     }
 
-    fn from_number(n: u32) -> Result<Ext<F>, BookFault> {
-        if n >= Self::order() {
-            return Err(BookFault::NoElement(n as usize));
-        }
+    #[tactic(auto, unfolding(crate::specs::Extend::extend), using(crate::proofs::Parts::high_lt))]
+    fn element(n: u32) -> Ext<F> {
         let q = F::order();
-        let lo = F::from_number(n % q)?;
-        let hi = F::from_number(n / q)?;
-        Ok(Ext { lo, hi })
+        Ext {
+            lo: F::element(n % q),
+            hi: F::element(n / q),
+        }
     }
 
     fn number(self) -> u32 {
@@ -70,17 +73,11 @@ impl<F: BaseField> Field for Ext<F> {
     }
 
     fn zero() -> Ext<F> {
-        Ext {
-            lo: F::zero(),
-            hi: F::zero(),
-        }
+        Ext::from(F::zero())
     }
 
     fn one() -> Ext<F> {
-        Ext {
-            lo: F::one(),
-            hi: F::zero(),
-        }
+        Ext::from(F::one())
     }
 
     fn constant() -> Ext<F> {
@@ -98,6 +95,7 @@ impl<F: BaseField> Field for Ext<F> {
     }
 
     // With a + b u and c + d u, the part of u, a d + b c + b d, is (a + b) (c + d) + a c: four products in place of five.
+    #[tactic(auto, using(crate::proofs::Short::product_is))]
     fn times(self, other: Ext<F>) -> Ext<F> {
         let low = self.lo.times(other.lo);
         let high = self.hi.times(other.hi);

@@ -1,8 +1,0 @@
--- The number is a + q b.
-use Rattle.std.proofs.Common.{rules}
-use Rattle.extension.specs.Extend.{extend}
-use Rattle.extension.proofs.ext.ExtField.number.Goals as goal
-
-pub returns : goal.returns
-unfolding extend
-returns g c = search rules

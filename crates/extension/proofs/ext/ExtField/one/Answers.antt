@@ -1,8 +1,0 @@
--- One is the base field's.
-use Rattle.std.proofs.Common.{rules}
-use Rattle.extension.specs.Extend.{extend}
-use Rattle.extension.proofs.ext.ExtField.one.Goals as goal
-
-pub returns : goal.returns
-unfolding extend
-returns g c = search rules

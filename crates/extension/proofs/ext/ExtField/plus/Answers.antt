@@ -1,8 +1,0 @@
--- A sum adds the parts.
-use Rattle.std.proofs.Common.{rules}
-use Rattle.extension.specs.Extend.{extend}
-use Rattle.extension.proofs.ext.ExtField.plus.Goals as goal
-
-pub returns : goal.returns
-unfolding extend
-returns g c = search rules
