@@ -1,13 +1,13 @@
 -- A rule at each number below a bound, by one test that computes. Assumes nothing.
-use Rattle.std.specs.Prelude.{◌≡◌, ℕ, zero, suc, ◌<◌, Bool, true, T, nat_eq, nat_lt}
+use Rattle.std.specs.Prelude.{◌≡◌, ℕ, zero, suc, ◌<◌, Bool, true, ◌&&◌, T, nat_eq, nat_lt}
 use Rattle.std.proofs.Common.{subst, sym, arith, eqb→eq, ltb→lt}
 use Rattle.std.proofs.Math.Decide.{ℕ_discrete}
-use Rattle.ring2.proofs.Solve.{both, both_left, both_right}
+use Rattle.ring2.proofs.Solve.{both_left, both_right}
 
 -- the test passes at each number below n
 abbrev pub every : ℕ → (ℕ → Bool) → Bool
 every zero P = true
-every (suc n) P = both (P n) (every n P)
+every (suc n) P = P n && every n P
 
 pub every_at : (n : ℕ) (P : ℕ → Bool) → T (every n P) → (k : ℕ) → k < n → T (P k)
 every_at zero P t k h = let f : ⊥ = omega arith in absurd f

@@ -1,6 +1,6 @@
 -- A prover of the identities of commutative rings of characteristic two: `solve`. Assumes nothing.
 use mathlib.Core.Path.{◌≡◌, refl, sym, ap, ap₂, ◌∙◌}
-use mathlib.Core.Bool.{Bool, true, false}
+use mathlib.Core.Bool.{Bool, true, false, ◌&&◌}
 use mathlib.Core.List.{List, [], ◌∷◌}
 use Prim.Native.Nat.{ℕ, zero, suc}
 use lib.Dec.{T}
@@ -68,24 +68,20 @@ norm unit = leaf
 norm (a ⊕ b) = add (norm a) (norm b)
 norm (a ⊗ b) = mul (norm a) (norm b)
 
-abbrev pub both : Bool → Bool → Bool
-both true b = b
-both false b = false
-
 abbrev pub vanishes : Poly → Bool
 vanishes nil = true
 vanishes leaf = false
-vanishes (node p P) = both (vanishes p) (vanishes P)
+vanishes (node p P) = vanishes p && vanishes P
 
 -- the two expressions have one polynomial: their sum is 0
 abbrev pub same : Ex → Ex → Bool
 same a b = vanishes (add (norm a) (norm b))
 
-pub both_left : (a b : Bool) → T (both a b) → T a
+pub both_left : (a b : Bool) → T (a && b) → T a
 both_left true b t = tt
 both_left false b t = t
 
-pub both_right : (a b : Bool) → T (both a b) → T b
+pub both_right : (a b : Bool) → T (a && b) → T b
 both_right true b t = t
 both_right false b t = absurd t
 

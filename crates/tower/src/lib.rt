@@ -36,16 +36,19 @@ pub fn tower_grows<F: BaseField>()
 {}
 
 // The relations of the generators fix every product of a tower.
+#[tactic(auto, using(crate::proofs::Fixed::fixed))]
 pub fn tower_fixes_products<F: Field>()
     ensures { (m : ℕ) → Tower F.structure m → Fixed F.structure m }
 {}
 
 // The fields of 4, 16, 256 and 65536 elements are Cantor's tower.
+#[tactic(auto, using(crate::proofs::Towers::piles_are_towers))]
 pub fn tower_stands()
     ensures { PilesAreTowers }
 {}
 
 // The worked products and inverses of the piles.
+#[tactic(auto, unfolding(extension::specs::Extend::extend))]
 pub fn worked_products_stand()
     ensures { AllHold worked }
 {}
