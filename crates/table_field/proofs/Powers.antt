@@ -1,8 +1,8 @@
 -- Tables of powers and logarithms in any field of 256 elements: one test over each table gives the rule at each entry. Assumes nothing.
-use Rattle.std.proofs.Common.{◌≡◌, ℕ, zero, suc, ◌+◌, ◌-◌, ◌%◌, ◌<◌, ◌≤◌, Bool, T, eqb, ltb, List, get_or, sym, ap, ◌∙◌, subst, ap₂, mod-lt, mod-eq_of_lt, suc-add, zero-add, arith, lit<, eqb→eq, ltb→lt}
+use Rattle.std.proofs.Common.{◌≡◌, ℕ, zero, suc, ◌+◌, ◌-◌, ◌%◌, ◌<◌, ◌≤◌, Bool, ◌&&◌, T, eqb, ltb, List, get_or, sym, ap, ◌∙◌, subst, ap₂, mod-lt, mod-eq_of_lt, suc-add, zero-add, arith, lit<, eqb→eq, ltb→lt}
 use native.Mathlib.Nat.{suc-mod}
 use Rattle.ring2.proofs.Laws.{one_times, zero_times, times_zero}
-use Rattle.ring2.proofs.Solve.{both, both_left, both_right}
+use Rattle.ring2.proofs.Solve.{both_left, both_right}
 use Rattle.field.specs.Structure.{Structure}
 use Rattle.field.specs.Numbers.{product, inverted}
 use Rattle.field.specs.Tests.{every, every_at}
@@ -11,14 +11,14 @@ use Rattle.table_field.specs.Table.{power, power_number}
 
 -- the entry i is a number below 256, and p of it is the next one, round to the first again
 abbrev next_test : (ℕ → ℕ) → List ℕ → ℕ → Bool
-next_test p xs i = both (ltb (get_or xs i 0) 256) (eqb (p (get_or xs i 0)) (get_or xs (suc i % 255) 0))
+next_test p xs i = ltb (get_or xs i 0) 256 && eqb (p (get_or xs i 0)) (get_or xs (suc i % 255) 0)
 
 abbrev pub power_test : (ℕ → ℕ) → List ℕ → Bool
-power_test p xs = both (eqb (get_or xs 0 0) 1) (every 255 (next_test p xs))
+power_test p xs = eqb (get_or xs 0 0) 1 && every 255 (next_test p xs)
 
 -- the number n has its place among the powers
 abbrev place_test : List ℕ → List ℕ → ℕ → Bool
-place_test xs ys n = both (ltb (get_or ys n 0) 255) (eqb (get_or xs (get_or ys n 0) 0) n)
+place_test xs ys n = ltb (get_or ys n 0) 255 && eqb (get_or xs (get_or ys n 0) 0) n
 
 abbrev pub logarithm_test : List ℕ → List ℕ → Bool
 logarithm_test xs ys = every 255 (λ k. place_test xs ys (suc k))
@@ -64,23 +64,21 @@ module _ {K : Type 0} (s : Structure K) where
   power_add x (suc i) j =
       ap (power s x) (suc-add i j) ∙ ap (s.times x) (power_add x i j) ∙ sym (s.ring.times_assoc x (power s x i) (power s x j))
 
-  element_is : (g a i : ℕ) → power_number s g i ≡ a → s.of a ≡ power s (s.of g) i
-  element_is g a i e = ap s.of (sym e) ∙ s.of_value (power s (s.of g) i)
-
   -- a product adds the logarithms
-  pub product_rule : (g a b i j : ℕ) → power_number s g i ≡ a → power_number s g j ≡ b → power_number s g (i + j) ≡ product s a b
-  product_rule g a b i j d e =
-      ap s.value (power_add (s.of g) i j ∙ ap₂ s.times (sym (element_is g a i d)) (sym (element_is g b j e)))
+  pub power_sum : (g i j : ℕ) → power_number s g (i + j) ≡ product s (power_number s g i) (power_number s g j)
+  power_sum g i j =
+      let x : K = s.of g in
+      ap s.value (power_add x i j ∙ ap₂ s.times (sym (s.of_value (power s x i))) (sym (s.of_value (power s x j))))
 
   -- an inverse takes the logarithm from 255
-  pub inverse_rule : (g a i : ℕ) → power_number s g 255 ≡ 1 → i ≤ 255 → power_number s g i ≡ a → power_number s g (255 - i) ≡ inverted s a
-  inverse_rule g a i full h e =
+  pub power_inverse : (g i : ℕ) → power_number s g 255 ≡ 1 → i ≤ 255 → power_number s g (255 - i) ≡ inverted s (power_number s g i)
+  power_inverse g i full h =
       let x : K = s.of g in
       let turn : power s x 255 ≡ s.one = same_element s (power s x 255) s.one (full ∙ sym s.value_one) in
       let total : i + (255 - i) ≡ 255 = omega arith in
       ap s.value
-      (inverse_unique s (s.of a) (power s x (255 - i))
-      (ap (λ k. s.times k (power s x (255 - i))) (element_is g a i e) ∙ sym (power_add x i (255 - i)) ∙ ap (power s x) total ∙ turn))
+      (inverse_unique s (s.of (power_number s g i)) (power s x (255 - i))
+      (ap (λ k. s.times k (power s x (255 - i))) (s.of_value (power s x i)) ∙ sym (power_add x i (255 - i)) ∙ ap (power s x) total ∙ turn))
 
   -- products with zero, and its inverse
   pub zero_product : (b : ℕ) → product s 0 b ≡ 0

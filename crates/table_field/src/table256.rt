@@ -7,7 +7,8 @@ mod power_table;
 
 pub use arith::table_equals_pile;
 
-// An element, by its number.
+// An element, by its number. It has no `Model`: seen as a number alone it could be 256 or more, where the laws fail.
+// Nor is it one type with `Gf4` under a const parameter: this crate may not implement `Field` for a type of crate `field`.
 #[derive(Clone, Copy)]
 pub struct Table256 {
     n: u8,

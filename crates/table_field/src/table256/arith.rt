@@ -3,22 +3,15 @@ ghost use Rattle.std.specs.Prelude.{◌≡◌, ◌<◌};
 ghost use Rattle.extension.specs.Piles.{gf256};
 ghost use Rattle.table_field.specs.Equals.{Equals};
 ghost use Rattle.table_field.specs.Table.{table256 as the_table, power_number};
-ghost use Rattle.std.proofs.Common.{rules, arith};
+ghost use Rattle.std.proofs.Math.Dec.{lit≤};
 
 use crate::table256::Table256;
 use crate::table256::logarithm_table::LOGARITHMS;
 use crate::table256::power_table::POWERS;
-use fault::fault::BookFault;
 use field::{BaseField, Field};
 
-// The one element of the number n.
-fn element(n: u8) -> Table256
-    ensures { (x : Table256) → x.n ≡ n → result ≡ x }
-{
-    Table256 { n }
-}
-
 // The number of the power i of 18.
+#[tactic(auto, using(crate::proofs::Tables::power_rule))]
 fn power(i: usize) -> u8
     ensures { result ≡ power_number gf256 18 i }
 {
@@ -36,60 +29,49 @@ fn logarithm(n: u8) -> usize
 impl Field for Table256 {
     ghost structure = { the_table };
 
-    ghost fits = { first_of (Prim.search rules, Prim.grind (arith, Self.row.coded.inj)) };
+    ghost fits = { lit≤ tt };
 
     fn order() -> u32 {
         256
     }
 
-    fn from_number(n: u32) -> Result<Table256, BookFault> {
-        if n >= 256 {
-            return Err(BookFault::NoElement(n as usize));
-        }
-        Ok(element(n as u8))
+    fn element(n: u32) -> Table256 {
+        Table256 { n: n as u8 }
     }
 
     fn number(self) -> u32 {
         self.n as u32
     }
 
-    fn zero() -> Table256 {
-        element(0)
-    }
-
-    fn one() -> Table256 {
-        element(1)
-    }
-
+    #[tactic(auto, unfolding(extension::specs::Extend::extend))]
     fn constant() -> Table256 {
-        element(128)
-    }
-
-    fn plus(self, other: Table256) -> Table256 {
-        element(self.n ^ other.n)
+        Self::element(128)
     }
 
     // Two logarithms and one power.
+    #[tactic(auto, using(crate::proofs::Powers::power_sum, crate::proofs::Powers::zero_product, crate::proofs::Powers::product_zero))]
     fn times(self, other: Table256) -> Table256 {
         if self.n == 0 || other.n == 0 {
-            return element(0);
+            return Self::zero();
         }
-        element(power(logarithm(self.n) + logarithm(other.n)))
+        Self::element(power(logarithm(self.n) + logarithm(other.n)) as u32)
     }
 
+    #[tactic(auto, using(crate::proofs::Tables::power_inverse, crate::proofs::Powers::zero_inverse))]
     fn inverse(self) -> Table256 {
         if self.n == 0 {
-            return element(0);
+            return Self::zero();
         }
-        element(power(255 - logarithm(self.n)))
+        Self::element(power(255 - logarithm(self.n)) as u32)
     }
 }
 
 impl BaseField for Table256 {
-    ghost small = { first_of (Prim.search rules, Prim.grind (arith, Self.row.coded.inj)) };
+    ghost small = { lit≤ tt };
 }
 
 // The table field equals the pile of 256 elements in number, sum, product, inverse and constant.
+#[tactic(auto, using(crate::proofs::Numbers::equals_pile))]
 pub fn table_equals_pile()
     ensures { Equals the_table gf256 }
 {}
