@@ -2,25 +2,22 @@
 #![tactic(auto)]
 
 use extension::{Ext, Gf16, Gf256, Gf65536};
-use fault::fault::Fault;
+use fault::fault::{BookFault, Fault};
 use field::{BaseField, Field, Gf4};
 use std::io;
 use table_field::{Table256, table_equals_pile};
 use tower::{inverse, product, tower_stands, worked_products_stand};
 
-fn show<F: Field>(rt: &HostRuntime, a: u32, b: u32) -> io::Result<()> {
-    let q = F::order();
-    match (product::<F>(a, b), inverse::<F>(a)) {
-        (Ok(c), Ok(i)) => println!(rt; "{q}: {a} * {b} = {c}, 1 / {a} = {i}"),
-        (Err(fault), _) => refused(rt, q, Fault::from(fault)),
-        (_, Err(fault)) => refused(rt, q, Fault::from(fault)),
-    }
+fn product_and_inverse<F: Field>(a: u32, b: u32) -> Result<(u32, u32), BookFault> {
+    Ok((product::<F>(a, b)?, inverse::<F>(a)?))
 }
 
-fn refused(rt: &HostRuntime, q: u32, fault: Fault) -> io::Result<()> {
-    let number = fault.number();
-    let place = fault.place();
-    println!(rt; "{q}: refused by {number} at {place}")
+fn show<F: Field>(rt: &HostRuntime, a: u32, b: u32) -> io::Result<()> {
+    let q = F::order();
+    match product_and_inverse::<F>(a, b).map_err(Fault::from) {
+        Ok((c, i)) => println!(rt; "{q}: {a} * {b} = {c}, 1 / {a} = {i}"),
+        Err(fault) => println!(rt; "{q}: refused by {} at {}", fault.number(), fault.place()),
+    }
 }
 
 fn main(rt: HostRuntime) -> io::Result<()> {
