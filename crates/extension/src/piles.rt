@@ -12,6 +12,7 @@ pub type Gf256 = Ext<Gf16>;
 // No field is made of this one: it is too large for a base field.
 pub type Gf65536 = Ext<Gf256>;
 
+// An impl for each, since which extensions may be extended again hangs on the size of the field at the bottom.
 impl BaseField for Ext<Gf4> {
     ghost small = { unfold extend in lit≤ tt };
 }

@@ -10,7 +10,7 @@ use Rattle.table_field.specs.CarriedLaws.{Numbering}
 use Rattle.table_field.specs.Carried.{carried}
 use Rattle.table_field.specs.declared.table256.Table256.{Table256}
 
--- two elements of one number are one element
+-- two elements of one number are one element; as for `Gf4`, since a lemma over any record with a proof in it would be longer
 pub same_number : (x y : Table256) → x.n ≡ y.n → x ≡ y
 same_number x y p = λ i. record { n = p i; small = is_prop→PathP (λ j. p j < 256) (λ j. le_prop) x.small y.small i }
 
