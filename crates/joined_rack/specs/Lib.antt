@@ -1,2 +1,3 @@
 pub mod Beside
 pub mod Join
+pub mod Ranges

@@ -1,5 +1,6 @@
 // The two sides of a joined rack.
 ghost use Rattle.joined_rack.specs.Beside.{joined_meaning};
+ghost use Rattle.joined_rack.specs.Ranges.{side_by_side_in_range};
 
 use crate::find::naming;
 use crate::pair::{JoinedRack, Part};
@@ -8,6 +9,8 @@ use rack::sides::{MOST_BAYS, Reading, Serving};
 
 impl<F: Reading, S: Reading> Reading for JoinedRack<F, S> {
     ghost meaning = { joined_meaning F.Reading.meaning S.Reading.meaning };
+
+    ghost in_range = { λ x. side_by_side_in_range (F.Reading.meaning x.first) (S.Reading.meaning x.second) (F.Reading.in_range x.first) (S.Reading.in_range x.second) };
 
     fn bays(&mut self) -> usize {
         (self.first.bays() + self.second.bays()).min(MOST_BAYS)
@@ -33,17 +36,10 @@ impl<F: Serving, S: Serving> Serving for JoinedRack<F, S> {
         }
     }
 
-    fn off(&mut self, bay: usize) -> Result<(), RackFault> {
+    fn switch(&mut self, bay: usize, on: bool) -> Result<(), RackFault> {
         match self.part(bay)? {
-            Part::First(b) => self.first.off(b),
-            Part::Second(b) => naming(self.second.off(b), bay),
-        }
-    }
-
-    fn on(&mut self, bay: usize) -> Result<(), RackFault> {
-        match self.part(bay)? {
-            Part::First(b) => self.first.on(b),
-            Part::Second(b) => naming(self.second.on(b), bay),
+            Part::First(b) => self.first.switch(b, on),
+            Part::Second(b) => naming(self.second.switch(b, on), bay),
         }
     }
 

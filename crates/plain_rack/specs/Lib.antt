@@ -1,2 +1,4 @@
 pub mod Plain
+pub mod Ranges
 pub mod Shape
+pub mod Zeros

@@ -5,3 +5,5 @@ mod cells;
 pub mod make;
 pub mod parts;
 pub mod sides;
+#[cfg(test)]
+mod tests;

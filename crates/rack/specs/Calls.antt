@@ -55,13 +55,20 @@ with_bay m bay ws = record {
 abbrev pub read_answer : Meaning → ℕ → ℕ → Result ℕ RackFault
 read_answer m bay line = answer (cell_refusal m bay line) (m.word bay line)
 
+-- What a bay holds in a line: its word if it answers.
+abbrev pub entry_of : Meaning → ℕ → ℕ → Option ℕ
+entry_of m line bay = cond (answers m bay) (Some (m.word bay line)) None
+
+abbrev pub entry_answer : Meaning → ℕ → ℕ → Result (Option ℕ) RackFault
+entry_answer m line bay = cond (nat_le m.bays bay) (Err (NoBay bay)) (cond (nat_le m.lines line) (Err (NoLine line)) (Ok (entry_of m line bay)))
+
 abbrev pub write_answer : Meaning → ℕ → ℕ → Result (Unit {0}) RackFault
 write_answer m bay line = answer (cell_refusal m bay line) tt
 
 abbrev pub write_after : Meaning → ℕ → ℕ → ℕ → Meaning
 write_after m bay line w = after (cell_refusal m bay line) m (with_word m bay line w)
 
--- Of off, on and exchange.
+-- Of switch, off, on and exchange.
 abbrev pub switch_answer : Meaning → ℕ → Result (Unit {0}) RackFault
 switch_answer m bay = answer (bay_refusal m bay) tt
 

@@ -5,6 +5,8 @@ use fault::fault::RackFault;
 impl<R: Reading> Reading for &mut R {
     ghost meaning = { λ x. R.Reading.meaning x.now };
 
+    ghost in_range = { λ x. R.Reading.in_range x.now };
+
     fn bays(&mut self) -> usize {
         (**self).bays()
     }
@@ -23,12 +25,8 @@ impl<R: Serving> Serving for &mut R {
         (**self).write(bay, line, word)
     }
 
-    fn off(&mut self, bay: usize) -> Result<(), RackFault> {
-        (**self).off(bay)
-    }
-
-    fn on(&mut self, bay: usize) -> Result<(), RackFault> {
-        (**self).on(bay)
+    fn switch(&mut self, bay: usize, on: bool) -> Result<(), RackFault> {
+        (**self).switch(bay, on)
     }
 
     fn exchange(&mut self, bay: usize) -> Result<(), RackFault> {

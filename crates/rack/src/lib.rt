@@ -2,5 +2,6 @@
 #![tactic(auto)]
 
 pub mod ask;
+pub mod error;
 pub mod lent;
 pub mod sides;

@@ -2,7 +2,7 @@
 use Rattle.std.proofs.Common.{◌≡◌, ◌-◌, ◌<◌, ◌≤◌, rules}
 use Rattle.rack.specs.Calls.{exchange_after}
 use Rattle.joined_rack.specs.Beside.{side_by_side}
-use Rattle.joined_rack.proofs.Shift.{side_by_side_ranges, first_exchange, second_exchange}
+use Rattle.joined_rack.proofs.Shift.{first_exchange, second_exchange}
 use Rattle.joined_rack.proofs.sides.JoinedRackServing.exchange.Goals as goal
 
 pub returns-in-First : goal.returns-in-First
@@ -15,7 +15,6 @@ returns-in-First g c =
     let within : bay < (side_by_side m n).bays = search rules in
     let step : k ≡ exchange_after m bay (k.word bay) = search rules in
     let whole = first_exchange m n k bay within has step in
-    let ranges = side_by_side_ranges k n c.exchange.ensures.ranges c.part.ensures.second_ranges in
     search rules
 
 pub returns-in-Second : goal.returns-in-Second
@@ -28,5 +27,4 @@ returns-in-Second g c =
     let within : bay < (side_by_side m n).bays = search rules in
     let step : k ≡ exchange_after n (bay - m.bays) (k.word (bay - m.bays)) = search rules in
     let whole = second_exchange m n k bay within past step in
-    let ranges = side_by_side_ranges m k c.part.ensures.first_ranges c.exchange-in-Second.ensures.ranges in
     search rules

@@ -1,29 +1,24 @@
--- Line after line the bay is blank, and then all of it.
-use Rattle.std.proofs.Common.{◌≡◌, ℕ, ◌≤◌, true, length, set, vec_items, ap, ◌∙◌, rules}
-use Rattle.rack.specs.Meaning.{Meaning}
-use Rattle.rack.specs.Calls.{with_bay}
-use Rattle.rack.proofs.Laws.{bay_own}
-use Rattle.plain_rack.specs.Plain.{blank, rack_of, plain_meaning}
-use Rattle.plain_rack.proofs.Fill.{filled, filled_next}
-use Rattle.plain_rack.proofs.Places.{set_switch}
+-- A row of the words that is filled is a bay of blank lines.
+use Rattle.std.proofs.Common.{◌≡◌, ℕ, ◌+◌, ◌-◌, ◌*◌, ◌≤◌, List, true, set, length, replicate, vec_items, lit<, ap, ◌∙◌, rules, arith}
+use borrow.Rule.Slice.PartMut.{put_mid}
+use Rattle.std.proofs.lemmas.List.{places, with_items_is}
+use Rattle.plain_rack.specs.Plain.{place_of, rack_of}
+use Rattle.plain_rack.proofs.Places.{row_within, set_bay}
 use Rattle.plain_rack.proofs.parts.PlainRack.renew.Goals as goal
-
-pub loop-line-preserved : goal.loop-line-preserved
-loop-line-preserved c =
-    let p = c.args.self.now in
-    let m = rack_of p.shape.bays p.shape.lines (set p.switches c.args.bay true) (vec_items p.words) in
-    filled_next m c.args.bay 65535 c.loop-line.line (plain_meaning c.loop-line.self) (plain_meaning c.put.new.self) c.loop-line.invariant c.put.ensures
 
 pub returns : goal.returns
 returns c =
     let p = c.args.self.now in
-    let bay = c.args.bay in
+    let ws = vec_items p.words in
+    let lines = p.shape.lines in
+    let from = c.place-from.result in
+    let size : from + lines - from ≡ lines = omega arith in
+    let fits : from + lines ≤ length c.deref_mut.result.now = omega (arith, row_within p.shape.bays lines c.args.bay c.requires) in
+    let row : c.fill.new.self ≡ replicate lines 65535 = c.fill.ensures.after (λ y e. search rules) ∙ ap (λ (n : ℕ). replicate n 65535) (grind (arith, places)) in
+    let filled = put_mid from (from + lines - from) c.deref_mut.result.now c.fill.new.self in
+    let list : filled ≡ put_mid (place_of lines c.args.bay 0) lines ws (replicate lines 65535) = simp (size, row, c.deref_mut.ensures.value) (search (rules, places)) in
+    let items = with_items_is p.words filled (search (rules, places)) ∙ list in
     let long : p.shape.bays ≤ length p.switches = search rules in
-    let on = set_switch p.shape.bays p.shape.lines p.switches (vec_items p.words) bay true c.requires long in
-    let all : c.loop-line.line ≡ p.shape.lines = search rules in
-    let renewed : plain_meaning c.loop-line.self ≡ with_bay (plain_meaning p) bay blank =
-    c.loop-line.invariant
-    ∙ ap (λ (n : ℕ). filled (rack_of p.shape.bays p.shape.lines (set p.switches bay true) (vec_items p.words)) bay 65535 n) all
-    ∙ ap (λ (x : Meaning). filled x bay 65535 p.shape.lines) on
-    in
-    record { blank = renewed; own = bay_own (plain_meaning p) bay blank (plain_meaning c.loop-line.self) renewed }
+    let full : length ws ≡ p.shape.bays * lines = search rules in
+    ap (λ (xs : List ℕ). rack_of p.shape.bays lines (set p.switches c.args.bay true) xs) items
+    ∙ set_bay p.shape.bays lines p.switches ws c.args.bay 65535 c.requires long (lit< tt) full
