@@ -1,5 +1,6 @@
 -- The words that the program begins with, and what the rack of three plain ones means. Assumes nothing.
-use Rattle.std.specs.Prelude.{ℕ, zero, suc, ◌+◌, ◌%◌, ◌^◌, List, [], ◌∷◌, ◌++◌}
+use Rattle.std.specs.Prelude.{ℕ, ◌+◌, ◌%◌, ◌^◌, List, map}
+use Rattle.std.specs.List.{range_with_len}
 use Rattle.rack.specs.Meaning.{Meaning}
 use Rattle.plain_rack.specs.declared.parts.PlainRack.{PlainRack}
 use Rattle.plain_rack.specs.Plain.{plain_meaning}
@@ -9,8 +10,7 @@ use Rattle.joined_rack.specs.Beside.{beside, joined_meaning}
 
 -- n words from base up, past 65535 again from 0.
 abbrev pub counted : ℕ → ℕ → List ℕ
-counted base zero = []
-counted base (suc n) = counted base n ++ ((base + n) % 2 ^ 16 ∷ [])
+counted base n = map (λ i. (base + i) % 2 ^ 16) (range_with_len 0 n)
 
 abbrev pub hall_meaning : JoinedRack PlainRack (JoinedRack PlainRack PlainRack) → Meaning
 hall_meaning = joined_meaning plain_meaning (joined_meaning plain_meaning plain_meaning)

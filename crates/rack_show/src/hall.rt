@@ -12,18 +12,17 @@ pub(crate) type Hall = JoinedRack<PlainRack, JoinedRack<PlainRack, PlainRack>>;
 
 // The words of two bays of three lines: base, base + 1 and so on.
 pub(crate) fn words(heap: Global, base: u16) -> Result<Vec<u16>, AllocError>
-    ensures { IfOk result (λ v. (vec_len v ≡ 6) × (v.items ≡ counted base 6)) }
+    ensures six { IfOk result (λ v. vec_len v ≡ 6) }
+    ensures items { IfOk result (λ v. v.items ≡ counted base 6) }
 {
-    let mut words = Vec::new(heap);
-    for i in 0..6 {
-        words.push(base.wrapping_add(i))?;
-    }
-    Ok(words)
+    (0..6).map(|i| base.wrapping_add(i)).collect(heap)
 }
 
 // Two bays of three lines over each of the lists, side by side.
 pub(crate) fn make_hall(a: Vec<u16>, b: Vec<u16>, c: Vec<u16>) -> Result<Hall, RackFault>
-    requires { (vec_len a ≡ 6) × (vec_len b ≡ 6) × (vec_len c ≡ 6) }
+    requires six_a { vec_len a ≡ 6 }
+    requires six_b { vec_len b ≡ 6 }
+    requires six_c { vec_len c ≡ 6 }
     ensures { MatchResult result (λ hall. hall_meaning hall ≡ three a.items b.items c.items) (λ _. ⊥) }
 {
     let shape = PlainRack::check(2, 3, 6)?;
@@ -38,7 +37,8 @@ pub(crate) fn make_hall(a: Vec<u16>, b: Vec<u16>, c: Vec<u16>) -> Result<Hall, R
 
 // Whether two bays of three lines can stand beside three bays of two.
 pub(crate) fn join_unlike(a: Vec<u16>, b: Vec<u16>) -> Result<(), RackFault>
-    requires { (vec_len a ≡ 6) × (vec_len b ≡ 6) }
+    requires six_a { vec_len a ≡ 6 }
+    requires six_b { vec_len b ≡ 6 }
     ensures { result ≡ Err (NoJoin 5) }
 {
     let mut first = PlainRack::new(PlainRack::check(2, 3, 6)?, a);

@@ -1,42 +1,36 @@
 // What is printed of a rack and of an answer.
 ghost use Rattle.std.specs.Prelude.{◌≡◌};
 
-use anyhow::anyhow;
 use fault::fault::{Fault, RackFault};
 use rack::sides::Reading;
-use rack_listing::{ListFault, list_line};
-use std::io;
+use rack_listing::list_line;
+use std::fmt::Display;
+use std::{fmt, io};
 
-// A fault as its layer's letter, its number and its place.
-pub(crate) fn show_fault(rt: &HostRuntime, fault: RackFault) -> io::Result<()> {
-    let fault = Fault::from(fault);
-    let layer = fault.layer();
-    let number = fault.number();
-    let place = fault.place();
-    println!(rt; "no {layer} {number} {place}")
+// Whatever an accepted call gives, where only that it was accepted is to be shown.
+pub(crate) fn ok<T: Drop>(_: T) -> &'static str {
+    "ok"
 }
 
-pub(crate) fn show_answer(
-    rt: &HostRuntime,
-    call: &str,
-    answer: Result<(), RackFault>,
-) -> io::Result<()> {
-    print!(rt; "{call}: ")?;
-    match answer {
-        Ok(()) => println!(rt; "ok"),
-        Err(fault) => show_fault(rt, fault),
+// What a read gives.
+#[derive(Drop)]
+pub(crate) struct Word(pub(crate) u16);
+
+impl Display for Word {
+    fn fmt<W: fmt::Write>(&self, f: &mut fmt::Formatter<W>) -> fmt::Result {
+        write!(f, "word {}", self.0)
     }
 }
 
-pub(crate) fn show_word(
+// A call and its answer: what it gives, or `no` and its fault.
+pub(crate) fn show_answer(
     rt: &HostRuntime,
-    call: &str,
-    answer: Result<u16, RackFault>,
+    call: impl Display + Drop,
+    answer: Result<impl Display + Drop, RackFault>,
 ) -> io::Result<()> {
-    print!(rt; "{call}: ")?;
     match answer {
-        Ok(word) => println!(rt; "word {word}"),
-        Err(fault) => show_fault(rt, fault),
+        Ok(given) => println!(rt; "{call}: {given}"),
+        Err(fault) => println!(rt; "{call}: no {}", Fault::from(fault)),
     }
 }
 
@@ -49,23 +43,14 @@ pub(crate) fn show_line<R: Reading>(
     ensures { R.Reading.meaning rack.new ≡ R.Reading.meaning rack.old }
 {
     print!(rt; "line {line}:")?;
-    match list_line(rt.alloc(), rack, line) {
-        Ok(entries) => {
-            for entry in entries.iter() {
-                match entry {
-                    Some(word) => print!(rt; " {word}")?,
-                    None => print!(rt; " -")?,
-                }
-            }
-            println!(rt; "")?;
-            Ok(())
+    for entry in list_line(rt.alloc(), rack, line)? {
+        match entry {
+            Some(word) => print!(rt; " {word}")?,
+            None => print!(rt; " -")?,
         }
-        Err(ListFault::Rack(fault)) => {
-            show_fault(rt, fault)?;
-            Ok(())
-        }
-        Err(ListFault::NoMemory) => Err(anyhow!("no memory")),
     }
+    println!(rt; "")?;
+    Ok(())
 }
 
 // The sizes, and then each line.

@@ -6,4 +6,8 @@ use Rattle.rack_listing.proofs.list_line.Given as goal
 abbrev pub invariant-loop-bay : goal.invariant-loop-bay
 invariant-loop-bay g l =
     let m = g.R.Reading.meaning l.initial.rack in
-    (g.R.Reading.meaning l.rack ≡ m) × (vec_items l.entries ≡ entries m l.line l.bay) × (m.lines ≤ l.line → l.bay ≡ 0)
+    record {
+      same : g.R.Reading.meaning l.rack ≡ m;
+      listed : vec_items l.entries ≡ entries m l.line l.bay;
+      refused : m.lines ≤ l.line → l.bay ≡ 0;
+    }
