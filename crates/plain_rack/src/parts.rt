@@ -15,7 +15,8 @@ pub struct PlainShape {
     ghost few_lines: { lines ≤ most_lines },
 }
 
-// A rack over the words that it was passed, one for each bay and line.
+// A rack over the words that it was passed, one for each bay and line. Its switches are an array, since its making must not
+// fail for want of memory. It has no model but `meaning`: that holds functions, which the value of a model may not.
 #[derive(Drop)]
 pub struct PlainRack {
     pub(crate) shape: PlainShape,

@@ -3,7 +3,7 @@ use Rattle.std.proofs.Common.{◌≡◌, ℕ, ◌+◌, ◌-◌, ◌*◌, ◌≤�
 use borrow.Rule.Slice.PartMut.{put_mid}
 use Rattle.std.proofs.lemmas.List.{places, with_items_is}
 use Rattle.plain_rack.specs.Plain.{place_of, rack_of}
-use Rattle.plain_rack.proofs.Places.{row_within, set_bay}
+use Rattle.plain_rack.proofs.Places.{row_below, set_bay}
 use Rattle.plain_rack.proofs.parts.PlainRack.renew.Goals as goal
 
 pub returns : goal.returns
@@ -13,7 +13,7 @@ returns c =
     let lines = p.shape.lines in
     let from = c.place-from.result in
     let size : from + lines - from ≡ lines = omega arith in
-    let fits : from + lines ≤ length c.deref_mut.result.now = omega (arith, row_within p.shape.bays lines c.args.bay c.requires) in
+    let fits : from + lines ≤ length c.deref_mut.result.now = omega (arith, row_below lines c.args.bay p.shape.bays c.requires) in
     let row : c.fill.new.self ≡ replicate lines 65535 = c.fill.ensures.after (λ y e. search rules) ∙ ap (λ (n : ℕ). replicate n 65535) (grind (arith, places)) in
     let filled = put_mid from (from + lines - from) c.deref_mut.result.now c.fill.new.self in
     let list : filled ≡ put_mid (place_of lines c.args.bay 0) lines ws (replicate lines 65535) = simp (size, row, c.deref_mut.ensures.value) (search (rules, places)) in
