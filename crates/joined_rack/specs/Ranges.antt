@@ -1,28 +1,24 @@
--- Two racks side by side lie within the ranges. Assumes nothing.
-use Rattle.std.proofs.Common.{ℕ, ◌+◌, ◌-◌, ◌^◌, ◌<◌, ◌≤◌, min, inl, inr, arith}
+-- Two racks side by side that can be joined lie within the ranges. Assumes nothing.
+use Rattle.std.proofs.Common.{ℕ, ◌+◌, ◌-◌, ◌^◌, ◌<◌, ◌≤◌, ◌⊎◌, inl, inr, arith}
 use Rattle.std.proofs.lemmas.Bool.{cases_lt}
 use Rattle.std.proofs.lemmas.Bool.Decides.{nat_tests}
-use Rattle.rack.specs.Meaning.{Meaning, InRange, most_bays}
-use Rattle.joined_rack.specs.Beside.{side_by_side}
+use Rattle.rack.specs.Meaning.{Meaning, InRange}
+use Rattle.joined_rack.specs.Beside.{beside}
+use Rattle.joined_rack.specs.Join.{Joinable}
 
-pub side_by_side_in_range : (m n : Meaning) → InRange m → InRange n → InRange (side_by_side m n)
-side_by_side_in_range m n p q = record {
+pub beside_in_range : (m n : Meaning) → Joinable m n → InRange m → InRange n → InRange (beside m n)
+beside_in_range m n j p q = record {
   some_bays = omega arith;
-  few_bays = omega arith;
-  some_lines = omega arith;
-  few_lines = omega arith;
-  words = small;
+  few_bays = j.few;
+  some_lines = p.some_lines;
+  few_lines = p.few_lines;
+  words = λ b l h k. small b l h k (cases_lt b m.bays);
 }
   where
-    first_small : (b l : ℕ) → l < min m.lines n.lines → b < m.bays → (side_by_side m n).word b l < 2 ^ 16
-    first_small b l k h = let inside : l < m.lines = omega arith in let w = p.words b l h inside in grind (arith, nat_tests)
-
-    second_small : (b l : ℕ) → b < min (m.bays + n.bays) most_bays → l < min m.lines n.lines → m.bays ≤ b → (side_by_side m n).word b l < 2 ^ 16
-    second_small b l k j h =
+    small : (b l : ℕ) → b < m.bays + n.bays → l < m.lines → ((b < m.bays) ⊎ (m.bays ≤ b)) → (beside m n).word b l < 2 ^ 16
+    small b l h k (inl lt) = let w = p.words b l lt k in grind (arith, nat_tests)
+    small b l h k (inr ge) =
         let has : b - m.bays < n.bays = omega arith in
         let inside : l < n.lines = omega arith in
         let w = q.words (b - m.bays) l has inside in
         grind (arith, nat_tests)
-
-    small : (b l : ℕ) → b < min (m.bays + n.bays) most_bays → l < min m.lines n.lines → (side_by_side m n).word b l < 2 ^ 16
-    small b l h k = elim (cases_lt b m.bays) [ inl lt ↦ first_small b l k lt | inr ge ↦ second_small b l h k ge ]

@@ -4,9 +4,9 @@ ghost use Rattle.joined_rack.specs.Beside.{bay_place, cell_place, naming_bay};
 
 use crate::pair::{JoinedRack, Part};
 use fault::fault::RackFault;
-use rack::sides::{MOST_BAYS, Reading};
+use rack::sides::Reading;
 
-// The same answer, where a refusal that names a bay names this one.
+// The same answer, where a refusal that names a bay names this one. With `map_err`, four calls would each repeat a closure.
 pub(crate) fn naming<T>(answer: Result<T, RackFault>, bay: usize) -> Result<T, RackFault>
     ensures { result ≡ naming_bay answer bay }
 {
@@ -25,8 +25,7 @@ impl<F: Reading, S: Reading> JoinedRack<F, S> {
         ensures second { S.Reading.meaning self.new.second ≡ S.Reading.meaning self.old.second }
     {
         let split = self.first.bays();
-        let bays = (split + self.second.bays()).min(MOST_BAYS);
-        if bay >= bays {
+        if bay >= split + self.second.bays() {
             return Err(RackFault::NoBay(bay));
         }
         if bay < split {
@@ -43,7 +42,7 @@ impl<F: Reading, S: Reading> JoinedRack<F, S> {
         ensures second { S.Reading.meaning self.new.second ≡ S.Reading.meaning self.old.second }
     {
         let part = self.part(bay)?;
-        if line >= self.first.lines() || line >= self.second.lines() {
+        if line >= self.first.lines() {
             return Err(RackFault::NoLine(line));
         }
         Ok(part)

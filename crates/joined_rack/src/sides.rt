@@ -1,23 +1,24 @@
-// The two sides of a joined rack.
+// The two sides of a joined rack. Each call names its step at both parts, whose types differ: a function over the parts would
+// need the step twice too, as two closures.
 ghost use Rattle.joined_rack.specs.Beside.{joined_meaning};
-ghost use Rattle.joined_rack.specs.Ranges.{side_by_side_in_range};
+ghost use Rattle.joined_rack.specs.Ranges.{beside_in_range};
 
 use crate::find::naming;
 use crate::pair::{JoinedRack, Part};
 use fault::fault::RackFault;
-use rack::sides::{MOST_BAYS, Reading, Serving};
+use rack::sides::{Reading, Serving};
 
 impl<F: Reading, S: Reading> Reading for JoinedRack<F, S> {
     ghost meaning = { joined_meaning F.Reading.meaning S.Reading.meaning };
 
-    ghost in_range = { λ x. side_by_side_in_range (F.Reading.meaning x.first) (S.Reading.meaning x.second) (F.Reading.in_range x.first) (S.Reading.in_range x.second) };
+    ghost in_range = { λ x. beside_in_range (F.Reading.meaning x.first) (S.Reading.meaning x.second) x.joinable (F.Reading.in_range x.first) (S.Reading.in_range x.second) };
 
     fn bays(&mut self) -> usize {
-        (self.first.bays() + self.second.bays()).min(MOST_BAYS)
+        self.first.bays() + self.second.bays()
     }
 
     fn lines(&mut self) -> usize {
-        self.first.lines().min(self.second.lines())
+        self.first.lines()
     }
 
     fn read(&mut self, bay: usize, line: usize) -> Result<u16, RackFault> {

@@ -12,7 +12,7 @@ use Rattle.joined_rack.specs.Beside.{beside, joined_meaning}
 abbrev pub counted : ℕ → ℕ → List ℕ
 counted base n = map (λ i. (base + i) % 2 ^ 16) (range_with_len 0 n)
 
-abbrev pub hall_meaning : JoinedRack PlainRack (JoinedRack PlainRack PlainRack) → Meaning
+abbrev pub hall_meaning : {p q r s : _} → JoinedRack PlainRack (JoinedRack PlainRack PlainRack p q) r s → Meaning
 hall_meaning = joined_meaning plain_meaning (joined_meaning plain_meaning plain_meaning)
 
 -- Two bays of three lines over each list, side by side.
