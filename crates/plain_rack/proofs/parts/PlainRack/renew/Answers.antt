@@ -1,5 +1,5 @@
 -- A row of the words that is filled is a bay of blank lines.
-use Rattle.std.proofs.Common.{◌≡◌, ℕ, ◌+◌, ◌-◌, ◌*◌, ◌≤◌, List, true, set, length, replicate, vec_items, lit<, ap, ◌∙◌, rules, arith}
+use Rattle.std.proofs.Common.{◌≡◌, ℕ, ◌+◌, ◌-◌, ◌≤◌, List, true, set, length, replicate, vec_items, lit<, ap, ◌∙◌, rules, arith}
 use borrow.Rule.Slice.PartMut.{put_mid}
 use Rattle.std.proofs.lemmas.List.{places, with_items_is}
 use Rattle.plain_rack.specs.Plain.{place_of, rack_of}
@@ -18,7 +18,5 @@ returns c =
     let filled = put_mid from (from + lines - from) c.deref_mut.result.now c.fill.new.self in
     let list : filled ≡ put_mid (place_of lines c.args.bay 0) lines ws (replicate lines 65535) = simp (size, row, c.deref_mut.ensures.value) (search (rules, places)) in
     let items = with_items_is p.words filled (search (rules, places)) ∙ list in
-    let long : p.shape.bays ≤ length p.switches = search rules in
-    let full : length ws ≡ p.shape.bays * lines = search rules in
     ap (λ (xs : List ℕ). rack_of p.shape.bays lines (set p.switches c.args.bay true) xs) items
-    ∙ set_bay p.shape.bays lines p.switches ws c.args.bay 65535 c.requires long (lit< tt) full
+    ∙ set_bay p.shape.bays lines p.switches ws c.args.bay 65535 c.requires (search rules) (lit< tt) (search rules)
