@@ -12,7 +12,7 @@ use Rattle.distance.proofs.Theorem.{one_exists}
 use Rattle.restore.specs.Restored.{absent, first_large, refusal, Admitted, Whole, NoLine, Restored}
 use Rattle.worksheet.specs.Present.{highest}
 use Rattle.worksheet.specs.Lines.{RestoredLine}
-use Rattle.worksheet.specs.Looking.{Surveyed}
+use Rattle.rack.specs.Meaning.{most_bays}
 use Rattle.worksheet.proofs.Highest.{count_others, count_highest}
 
 none_large : (bound : ℕ) (ws ms : List ℕ) → ((i : ℕ) → i < length ws → absent ms i ≡ false → get_or ws i 0 < bound) → first_large bound ws ms ≡ None
@@ -47,8 +47,15 @@ made_whole : {K : Type 0} (s : Structure K) (bays marks : List ℕ) (r : Result 
 made_whole s bays marks (Ok u) after restored some = (refl, restored)
 made_whole s bays marks (Err f) after restored some = absurd (some restored.2)
 
-module _ {K : Type 0} (s : Structure K) (n : ℕ) (here : ℕ → Bool) (word : ℕ → ℕ) (words marks : List ℕ) (kept : ℕ) (found : Surveyed n here word words marks kept)
-    (some : 1 ≤ n) (fits : n ≤ size s) (room : n + 4 ≤ 260) (enough : n ≤ kept) (small : (bay : ℕ) → word bay < count_words s) where
+-- The words of the n present bays with the highest numbers, as `restore` takes them; the other bays are marked.
+pub record Laid (n : ℕ) (here : ℕ → Bool) (word : ℕ → ℕ) (words marks : List ℕ) : Type 0 where
+  pub long_words : length words ≡ most_bays
+  pub long_marks : length marks ≡ most_bays
+  pub chosen : (bay : ℕ) → bay < n + 4 → absent marks bay ≡ not (highest n here bay)
+  pub read : (bay : ℕ) → bay < n + 4 → highest n here bay ≡ true → get_or words bay 0 ≡ word bay
+
+module _ {K : Type 0} (s : Structure K) (n : ℕ) (here : ℕ → Bool) (word : ℕ → ℕ) (words marks : List ℕ) (found : Laid n here word words marks)
+    (some : 1 ≤ n) (fits : n ≤ size s) (room : n + 4 ≤ 260) (enough : n ≤ count (highest n here) (n + 4)) (small : (bay : ℕ) → word bay < count_words s) where
   bays : List ℕ
   bays = take (n + 4) words
 
@@ -76,7 +83,7 @@ module _ {K : Type 0} (s : Structure K) (n : ℕ) (here : ℕ → Bool) (word : 
   given bay h on = get_or-take (n + 4) words bay 0 h ∙ found.read bay h on
 
   four : count (absent gone) (n + 4) ≡ 4
-  four = omega (arith, found.many, count_others (absent gone) (highest n here) (n + 4) chosen, count_highest n here (n + 4) (omega arith))
+  four = omega (arith, count_others (absent gone) (highest n here) (n + 4) chosen, count_highest n here (n + 4) (omega arith))
 
   not_refused : refusal s bays gone ≡ None
   not_refused = admitted_none s bays gone record {

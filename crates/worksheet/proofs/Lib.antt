@@ -1,5 +1,5 @@
-mod Asking
 pub mod Highest
 mod Kept
 mod Sheet
 mod Sofar
+pub mod Tally

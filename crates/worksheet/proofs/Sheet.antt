@@ -1,5 +1,5 @@
 -- The answers of restoring a line of a rack, from what the look at its bays found. Assumes nothing.
-use Rattle.std.proofs.Common.{◌≡◌, ℕ, ◌+◌, ◌-◌, ◌<◌, ◌≤◌, Bool, List, ◌++◌, length, take, drop, Some, None, Ok, Result, sym, refl, ap, ◌∙◌, subst, mod-lt, arith, length-append, length-drop, length-take-le, MatchResult}
+use Rattle.std.proofs.Common.{◌≡◌, ℕ, ◌+◌, ◌-◌, ◌<◌, ◌≤◌, Bool, true, false, cond, not, eqb, List, ◌++◌, length, get_or, take, drop, Some, None, Ok, Option, Result, OnOk, OnErr, is_some, unwrap_or, sym, refl, ap, ◌∙◌, subst, mod-lt, arith, length-append, length-drop, length-take-le, get_or-take}
 use Rattle.std.proofs.lemmas.List.{take_at}
 use Rattle.std.proofs.lemmas.Bool.Decides.{nat_tests}
 use Rattle.fault.specs.Refusing.{refusal_of}
@@ -9,54 +9,100 @@ use Rattle.field.specs.Structure.{Structure, size}
 use Rattle.extension.specs.Extend.{extend}
 use Rattle.codeword.specs.Sums.{count}
 use Rattle.codeword.specs.Codeword.{words as count_words, codeword}
+use Rattle.codeword.proofs.Counts.{count_ext}
 use Rattle.restore.specs.Restored.{refusal, Restored}
-use Rattle.rack.specs.Meaning.{Meaning}
-use Rattle.worksheet.specs.Present.{present, absent, absences}
+use Rattle.rack.specs.Meaning.{Meaning, most_bays}
+use Rattle.worksheet.specs.Present.{present, absent, absences, highest}
 use Rattle.worksheet.specs.Lines.{word_at, why_unrestored, RestoredLine, Holds, OnSheet}
 use Rattle.worksheet.specs.Looking.{Surveyed}
 use Rattle.worksheet.proofs.Highest.{count_others, count_highest}
-use Rattle.worksheet.proofs.Kept.{restored_line}
+use Rattle.worksheet.proofs.Kept.{Laid, restored_line}
 
-module _ {K : Type 0} (s : Structure K) (m : Meaning) (behind : ℕ → Bool) (sheet : List ℕ) (line bays : ℕ) (words marks : List ℕ) (kept : ℕ) (wide : bays ≡ m.bays) (some : 5 ≤ bays) (fits : bays ≤ size s + 4)
-    (long : bays ≤ length sheet) (inside : line < m.lines) (asked : Meaning) (same : asked ≡ m)
-    (surveyed : Surveyed (bays - 4) (present asked.switch behind) (word_at s asked line) words marks kept) where
+module _ {K : Type 0} (s : Structure K) (m : Meaning) (behind : ℕ → Bool) (sheet : List ℕ) (line bays : ℕ) (wide : bays ≡ m.bays) (some : 5 ≤ bays) (fits : bays ≤ size s + 4)
+    (long : bays ≤ length sheet) (inside : line < m.lines) (asked : Meaning) (same : asked ≡ m) (seen : List (Option ℕ))
+    (surveyed : Surveyed (bays - 4) (present asked.switch behind) (word_at s asked line) seen)
+    (room : m.bays ≤ 260) (gone : ℕ) (counted : gone ≡ count (λ bay. not (is_some (get_or (take bays seen) bay None))) (length (take bays seen))) where
+  here : ℕ → Bool
+  here = present m.switch behind
+
+  kept : ℕ → Bool
+  kept = highest (bays - 4) here
+
   -- the rack meant the same when it was asked
-  found : Surveyed (bays - 4) (present m.switch behind) (word_at s m line) words marks kept
-  found = subst (λ x. Surveyed (bays - 4) (present x.switch behind) (word_at s x line) words marks kept) same surveyed
+  found : Surveyed (bays - 4) here (word_at s m line) seen
+  unfolding here
+  found = subst (λ (x : Meaning). Surveyed (bays - 4) (present x.switch behind) (word_at s x line) seen) same surveyed
 
-  items : bays - 4 + 4 ≡ m.bays
+  items : bays - 4 + 4 ≡ bays
   items = omega arith
 
-  gone : absences m.switch behind m.bays + count (present m.switch behind) m.bays ≡ m.bays
-  gone = count_others (absent m.switch behind) (present m.switch behind) m.bays (λ bay h. refl)
+  -- a bay has a word where it is kept
+  has_word : (b : Bool) (w : ℕ) → is_some (cond b (Some w) None) ≡ b
+  has_word true w = refl
+  has_word false w = refl
 
-  here : kept ≡ count (present m.switch behind) m.bays - (count (present m.switch behind) m.bays - (bays - 4))
-  here =
-      found.many ∙ count_highest (bays - 4) (present m.switch behind) (bays - 4 + 4) (omega arith)
-      ∙ ap (λ k. count (present m.switch behind) k - (count (present m.switch behind) k - (bays - 4))) items
+  word_kept : (bay : ℕ) → bay < bays → is_some (get_or seen bay None) ≡ kept bay
+  unfolding kept
+  word_kept bay h = ap is_some (found.kept bay (omega arith)) ∙ has_word (highest (bays - 4) here bay) (word_at s m line bay)
 
-  -- fewer bays are present than the line has items
-  pub refused_absent : kept < bays - 4 → Some (TooManyAbsent (bays - kept)) ≡ why_unrestored s m behind (length sheet) line
-  refused_absent less =
-      let many : bays - kept ≡ absences m.switch behind m.bays = omega (arith, gone, here) in
-      let more : 4 < absences m.switch behind m.bays = omega (arith, gone, here) in
+  -- how many bays are kept, and how many are absent
+  all_gone : gone ≡ count (λ bay. not (is_some (get_or seen bay None))) bays
+  all_gone =
+      let test = λ (bay : ℕ). not (is_some (get_or (take bays seen) bay None)) in
+      counted ∙ ap (count test) (length-take-le bays seen (omega (arith, found.long)))
+      ∙ count_ext test (λ bay. not (is_some (get_or seen bay None))) bays (λ bay h. ap (λ o. not (is_some o)) (get_or-take bays seen bay None h))
+
+  all_kept : gone + count kept bays ≡ bays
+  all_kept = omega (arith, all_gone, count_others (λ bay. not (is_some (get_or seen bay None))) kept bays (λ bay h. ap not (word_kept bay h)))
+
+  most_kept : count kept bays ≡ count here bays - (count here bays - (bays - 4))
+  unfolding kept
+  most_kept = count_highest (bays - 4) here bays (omega arith) ∙ ap (λ k. count here bays - (count here k - (bays - 4))) items
+
+  all_present : absences m.switch behind m.bays + count here bays ≡ bays
+  unfolding here
+  all_present =
+      let e : absences m.switch behind bays + count (present m.switch behind) bays ≡ bays = count_others (absent m.switch behind) (present m.switch behind) bays (λ bay h. refl) in
+      subst (λ k. absences m.switch behind k + count (present m.switch behind) bays ≡ bays) wide e
+
+  -- more than four bays are absent
+  pub refused_absent : 4 < gone → Some (TooManyAbsent gone) ≡ why_unrestored s m behind (length sheet) line
+  refused_absent more =
+      let many : gone ≡ absences m.switch behind m.bays = omega (arith, all_kept, most_kept, all_present) in
       grind (arith, nat_tests)
 
-  not_refused : bays - 4 ≤ kept → why_unrestored s m behind (length sheet) line ≡ None
-  not_refused enough =
-      let few : absences m.switch behind m.bays ≤ 4 = omega (arith, gone, here) in
-      grind (arith, nat_tests)
+  few_absent : gone ≤ 4 → absences m.switch behind m.bays ≤ 4
+  few_absent few = omega (arith, all_kept, most_kept, all_present)
+
+  not_refused : gone ≤ 4 → why_unrestored s m behind (length sheet) line ≡ None
+  not_refused few = let less = few_absent few in grind (arith, nat_tests)
 
   small : (bay : ℕ) → word_at s m line bay < count_words s
   small bay = mod-lt (m.word bay line) {m = count_words s} (omega (arith, (extend s).value_lt (extend s).zero))
 
-  -- the words were copied onto the sheet, and restored there
-  module _ (copied : List ℕ) (copy : copied ≡ take bays words) (most : bays ≤ 260) (enough : bays - 4 ≤ kept) where
+  -- the words as `restore` takes them were copied onto the sheet, and restored there
+  module _ (words marks : List ℕ) (long_words : length words ≡ most_bays) (long_marks : length marks ≡ most_bays)
+      (words_at : (bay : ℕ) → bay < most_bays → get_or words bay 0 ≡ unwrap_or (get_or seen bay None) 0)
+      (marks_at : (bay : ℕ) → bay < most_bays → not (eqb (get_or marks bay 0) 0) ≡ not (is_some (get_or seen bay None)))
+      (copied : List ℕ) (copy : copied ≡ take bays words) (few : gone ≤ 4) where
+    laid : Laid (bays - 4) here (word_at s m line) words marks
+    unfolding kept
+    laid = record {
+      long_words = long_words;
+      long_marks = long_marks;
+      chosen = λ bay h. marks_at bay (omega arith) ∙ ap not (word_kept bay (omega arith));
+      read = λ bay h on. words_at bay (omega arith) ∙ ap (λ o. unwrap_or o 0) (found.kept bay h) ∙ ap (λ b. unwrap_or (cond b (Some (word_at s m line bay)) None) 0) on;
+    }
+
+    enough : bays - 4 ≤ count (highest (bays - 4) here) (bays - 4 + 4)
+    unfolding kept
+    enough = subst (λ k. bays - 4 ≤ count kept k) (sym items) (omega (arith, all_kept, few))
+
     rest : List ℕ
     rest = drop bays (copied ++ drop bays sheet)
 
     long_copied : length copied ≡ bays
-    long_copied = ap length copy ∙ length-take-le bays words (omega (arith, found.long_words))
+    long_copied = ap length copy ∙ length-take-le bays words (omega (arith, long_words))
 
     front : take bays (copied ++ drop bays sheet) ≡ take bays words
     front = take_at copied (drop bays sheet) bays long_copied ∙ copy
@@ -69,18 +115,18 @@ module _ {K : Type 0} (s : Structure K) (m : Meaning) (behind : ℕ → Bool) (s
 
     restored : (r : Result (Unit {0}) BookFault) (after : List ℕ)
         → Restored s (refusal s (take bays (copied ++ drop bays sheet)) (take bays marks)) (take bays (copied ++ drop bays sheet)) (take bays marks) r after
-        → (r ≡ Ok tt) × ((items : List ℕ) × RestoredLine s (bays - 4) (present m.switch behind) (word_at s m line) items × (after ≡ codeword s items))
+        → (r ≡ Ok tt) × ((items : List ℕ) × RestoredLine s (bays - 4) here (word_at s m line) items × (after ≡ codeword s items))
     restored r after so =
-        restored_line s (bays - 4) (present m.switch behind) (word_at s m line) words marks kept found (omega arith) (omega arith) (omega arith) enough small r after
-        (subst (λ k. Restored s (refusal s (take k words) (take k marks)) (take k words) (take k marks) r after) (omega arith)
+        restored_line s (bays - 4) here (word_at s m line) words marks laid (omega arith) (omega arith) (omega arith) enough small r after
+        (subst (λ k. Restored s (refusal s (take k words) (take k marks)) (take k words) (take k marks) r after) (sym items)
         (subst (λ ws. Restored s (refusal s ws (take bays marks)) ws (take bays marks) r after) front so))
 
     -- the answer, and what then stands on the sheet
     pub accepted : (r : Result (Unit {0}) BookFault) (after : List ℕ)
         → Restored s (refusal s (take bays (copied ++ drop bays sheet)) (take bays marks)) (take bays (copied ++ drop bays sheet)) (take bays marks) r after
-        → (refusal_of r ≡ why_unrestored s m behind (length sheet) line)
-        × MatchResult r (λ _. OnSheet s m behind line sheet (after ++ drop bays (copied ++ drop bays sheet))) (λ _. after ++ drop bays (copied ++ drop bays sheet) ≡ sheet)
-    unfolding rest
+        → (refusal_of r ≡ why_unrestored s m behind (length sheet) line) × OnOk r (OnSheet s m behind line sheet (after ++ drop bays (copied ++ drop bays sheet)))
+        × OnErr r (after ++ drop bays (copied ++ drop bays sheet) ≡ sheet)
+    unfolding rest here
     accepted r after so =
         let (ok, (items, line_is, code)) = restored r after so in
         let wide-after : length after ≡ bays = ap length code ∙ omega (arith, line_is.line.long) in
@@ -90,7 +136,8 @@ module _ {K : Type 0} (s : Structure K) (m : Meaning) (behind : ℕ → Bool) (s
           long = length-append after rest ∙ omega (arith, wide-after, long_rest);
           front = take_at after rest (bays - 4 + 4) (omega (arith, wide-after)) ∙ code;
         } in (
-          ap refusal_of ok ∙ sym (not_refused enough),
-          subst (λ x. MatchResult x (λ _. OnSheet s m behind line sheet (after ++ rest)) (λ _. after ++ rest ≡ sheet)) (sym ok)
+          ap refusal_of ok ∙ sym (not_refused few),
+          subst (λ x. OnOk x (OnSheet s m behind line sheet (after ++ rest))) (sym ok)
               (subst (λ k. Holds s (k - 4) (present m.switch behind) (word_at s m line) sheet (after ++ rest)) wide holds),
+          subst (λ x. OnErr x (after ++ rest ≡ sheet)) (sym ok) tt,
         )

@@ -1,23 +1,33 @@
 // The restored line: the one that fits the N present bays with the highest numbers.
-ghost use Rattle.std.specs.Prelude.{◌≡◌, length, MatchResult};
+ghost use Rattle.std.specs.Prelude.{◌≡◌, not, length, None, OnOk, OnErr, is_some, slice_index_or};
+ghost use Rattle.codeword.specs.Sums.{count};
 ghost use Rattle.fault.specs.Refusing.{refusal_of};
 ghost use Rattle.worksheet.specs.Lines.{marked, why_unrestored, OnSheet};
 
+use crate::bays::BaySet;
 use crate::looking::survey;
 use fault::fault::BookFault;
 use field::{BaseField, Field};
-use rack::sides::{MOST_BAYS, Reading};
+use rack::sides::Reading;
 use restore::restore;
+
+// How many of the bays have no word.
+fn count_absent(found: &[Option<u16>]) -> usize
+    ensures { result ≡ count (λ bay. not (is_some (slice_index_or found.now bay None))) (length found.now) }
+{
+    found.iter().filter(|word| word.is_none()).count()
+}
 
 // Restores a line of a rack onto the first places of a worksheet, from the bays that answer and are not marked.
 pub fn restore_line<F: BaseField, R: Reading>(
     rack: &mut R,
-    behind: &[bool; MOST_BAYS],
+    behind: &BaySet,
     sheet: &mut [u16],
     line: usize,
 ) -> Result<(), BookFault>
     ensures refused { refusal_of result ≡ why_unrestored F.Field.structure (R.Reading.meaning rack.old) (marked behind.now) (length sheet.old) line }
-    ensures then { MatchResult result (λ _. OnSheet F.Field.structure (R.Reading.meaning rack.old) (marked behind.now) line sheet.old sheet.new) (λ _. sheet.new ≡ sheet.old) }
+    ensures restored { OnOk result (OnSheet F.Field.structure (R.Reading.meaning rack.old) (marked behind.now) line sheet.old sheet.new) }
+    ensures kept { OnErr result (sheet.new ≡ sheet.old) }
     ensures after { R.Reading.meaning rack.new ≡ R.Reading.meaning rack.old }
 {
     let bays = rack.bays();
@@ -31,9 +41,12 @@ pub fn restore_line<F: BaseField, R: Reading>(
         return Err(BookFault::NoLine(line));
     }
     let found = survey::<F, R>(rack, behind, line, bays - 4);
-    if found.kept < bays - 4 {
-        return Err(BookFault::TooManyAbsent(bays - found.kept));
+    let absent = count_absent(&found[..bays]);
+    if absent > 4 {
+        return Err(BookFault::TooManyAbsent(absent));
     }
-    sheet[..bays].copy_from_slice(&found.words[..bays]);
-    restore::<F>(&mut sheet[..bays], &found.marks[..bays])
+    let words = found.map(|word| word.unwrap_or(0));
+    let marks = found.map(|word| u8::from(word.is_none()));
+    sheet[..bays].copy_from_slice(&words[..bays]);
+    restore::<F>(&mut sheet[..bays], &marks[..bays])
 }

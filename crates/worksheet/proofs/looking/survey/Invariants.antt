@@ -6,5 +6,8 @@ use Rattle.worksheet.proofs.looking.survey.Given as goal
 
 abbrev pub invariant-loop-bay : goal.invariant-loop-bay
 invariant-loop-bay g l =
-    (g.R.Reading.meaning l.rack ≡ g.R.Reading.meaning l.initial.rack)
-    × Sofar l.items (present (g.R.Reading.meaning l.initial.rack).switch (marked l.behind)) (word_at g.F.Field.structure (g.R.Reading.meaning l.initial.rack) l.line) l.bay l.words l.marks l.kept
+    let m = g.R.Reading.meaning l.initial.rack in
+    record {
+      same : g.R.Reading.meaning l.rack ≡ m;
+      sofar : Sofar l.items (present m.switch (marked l.behind)) (word_at g.F.Field.structure m l.line) l.bay l.found l.wanted;
+    }
