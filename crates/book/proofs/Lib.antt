@@ -1,4 +1,3 @@
-mod Asking
 mod Bounds
 mod Getting
 mod Hearing

@@ -48,9 +48,9 @@ module _ (k : Known) (m : Meaning) (bay room : ℕ) where
         on = subst (λ (x : Meaning). x.switch bay ≡ true) e (read_word m₁ bay 0 w read).2;
       }
 
-  -- the rack means the same still
-  pub still_ready : (m₁ : Meaning) → m₁ ≡ m → Ready k m bay room → Ready k m₁ bay room
-  still_ready m₁ e ok = subst (λ (x : Meaning). Ready k x bay room) (sym e) ok
+  -- the book knows the same, and the rack means the same still
+  pub still_ready : (k₁ : Known) → k₁ ≡ k → (m₁ : Meaning) → m₁ ≡ m → Ready k m bay room → Ready k₁ m₁ bay room
+  still_ready k₁ e m₁ f ok = subst₂ (λ (x : Known) (y : Meaning). Ready x y bay room) (sym e) (sym f) ok
 
 module _ {K : Type 0} (s : Structure K) where
   -- The bay's word of a restored line.

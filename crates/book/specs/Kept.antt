@@ -8,6 +8,6 @@ pub record Kept : Type 0 where
   pub behind : List Bool
 
 -- There is one item at least, and at most one for each of the q elements of the base field.
-pub record Holds (q items : ℕ) : Type 0 where
+pub record Fits (q items : ℕ) : Type 0 where
   pub some : 1 ≤ items
   pub fits : items ≤ q

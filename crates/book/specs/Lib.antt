@@ -1,3 +1,5 @@
+pub mod Kept
 pub mod Known
 pub mod Mending
+pub mod Reasons
 pub mod Sending

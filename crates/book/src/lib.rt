@@ -7,4 +7,4 @@ mod opening;
 mod words;
 
 pub use book::Book;
-pub use drawer::OpenBook;
+pub use drawer::{OpenBook, Refused};
