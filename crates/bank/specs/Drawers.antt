@@ -25,10 +25,10 @@ module _ {K : Type 0} where
   open_bay (Closed book) = None
   open_bay (Open book) = Some book.bay
 
-module _ {K : Type 0} (s : Structure K) where
   abbrev pub known_of : Drawer K → Known
-  known_of d = knows s (book_of d)
+  known_of d = knows (book_of d)
 
+module _ {K : Type 0} (s : Structure K) where
   -- A turn of the bank, as the ledger has it.
   abbrev pub Turned : ℕ → Call → Drawer K → Meaning → Answer → Drawer K → Meaning → Type 0
   Turned room c d m a d' m' = Turn s room c (known_of d) (open_bay d) m a (known_of d') (open_bay d') m'

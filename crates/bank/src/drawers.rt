@@ -7,7 +7,7 @@ use field::{BaseField, Field};
 
 // The book with its drawer closed, or with one open between a release and a seat.
 #[derive(Drop)]
-pub enum Drawer<F> {
+pub enum Drawer<F: BaseField> {
     Closed(Book<F>),
     Open(OpenBook<F>),
 }
@@ -15,7 +15,7 @@ pub enum Drawer<F> {
 impl<F: BaseField> Drawer<F> {
     // Whether the book marks the bay as behind.
     pub fn is_behind(&self, bay: usize) -> bool
-        ensures { result ≡ (known_of F.Field.structure self.now).behind bay }
+        ensures { result ≡ (known_of self.now).behind bay }
     {
         match self {
             Drawer::Closed(book) => book.is_behind(bay),

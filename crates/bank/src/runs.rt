@@ -42,7 +42,7 @@ impl From<BookFault> for NotStarted {
 }
 
 // Whoever looks at the drawer and the rack between the calls.
-pub trait Watch<F, R> {
+pub trait Watch<F: BaseField, R> {
     ghost sees: { Self → DrawerOf F → R → Self → Type 0 };
 
     fn look(&mut self, drawer: &Drawer<F>, rack: &R)
@@ -59,7 +59,7 @@ pub fn run<F: BaseField, R: Serving, W: Watch<F, R>>(
     calls: &[Call],
     watch: &mut W,
 ) -> Result<(Drawer<F>, Vec<Answer>), NotStarted>
-    ensures { MatchResult result (λ p. (why_start (size F.Field.structure) items (front_of (R.Reading.meaning rack.old)) ≡ None) × History F.Field.structure (known_of F.Field.structure) open_bay R.Reading.meaning W.Watch.sees (opening items (R.Reading.meaning rack.old).lines (size F.Field.structure) (R.Reading.meaning rack.old).bays (R.Reading.meaning rack.old).switch) (length sheet.old) calls.now p.1.items watch.old p.0 rack.new watch.new) (λ e. Reason (size F.Field.structure) items (R.Reading.meaning rack.old) e × (R.Reading.meaning rack.new ≡ R.Reading.meaning rack.old) × (watch.new ≡ watch.old) × (sheet.new ≡ sheet.old)) }
+    ensures { MatchResult result (λ p. (why_start (size F.Field.structure) items (front_of (R.Reading.meaning rack.old)) ≡ None) × History F.Field.structure known_of open_bay R.Reading.meaning W.Watch.sees (opening items (R.Reading.meaning rack.old).lines (size F.Field.structure) (R.Reading.meaning rack.old).bays (R.Reading.meaning rack.old).switch) (length sheet.old) calls.now p.1.items watch.old p.0 rack.new watch.new) (λ e. Reason (size F.Field.structure) items (R.Reading.meaning rack.old) e × (R.Reading.meaning rack.new ≡ R.Reading.meaning rack.old) × (watch.new ≡ watch.old) × (sheet.new ≡ sheet.old)) }
 {
     let mut answers = Vec::with_capacity(heap, calls.len())?;
     let mut drawer = Drawer::Closed(Book::<F>::start(rack, items)?);

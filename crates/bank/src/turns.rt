@@ -6,7 +6,7 @@ ghost use Rattle.bank.specs.declared.drawers.Drawer.TheVariants.{Closed, Open};
 ghost use Rattle.bank.specs.Drawers.{Turned, UnlessDone};
 
 use crate::drawers::Drawer;
-use book::{Book, OpenBook};
+use book::{Book, OpenBook, Refused};
 use call::Call;
 use fault::fault::Fault;
 use field::{BaseField, Field};
@@ -75,7 +75,7 @@ fn release<F: BaseField>(book: Book<F>, bay: u16) -> (Drawer<F>, Answer)
 {
     match book.release(bay as usize) {
         Ok(open) => (Drawer::Open(open), Answer::Done),
-        Err((book, fault)) => (Drawer::Closed(book), Answer::Refused(Fault::from(fault))),
+        Err(Refused { book, fault }) => (Drawer::Closed(book), Answer::Refused(Fault::from(fault))),
     }
 }
 
@@ -85,7 +85,7 @@ fn seat<F: BaseField, R: Serving>(book: OpenBook<F>, rack: &mut R) -> (Drawer<F>
 {
     match book.seat(rack) {
         Ok(book) => (Drawer::Closed(book), Answer::Done),
-        Err((book, fault)) => (Drawer::Open(book), Answer::Refused(Fault::from(fault))),
+        Err(Refused { book, fault }) => (Drawer::Open(book), Answer::Refused(Fault::from(fault))),
     }
 }
 

@@ -15,4 +15,4 @@ invariant-loop-call g l =
     × (length l.calls ≤ vec_capacity l.answers)
     × (length l.sheet ≡ length l.initial.sheet)
     × ((w : g.row.W.Denot) → sees w l.initial.drawer l.initial.rack l.initial.watch
-    → History s (known_of s) open_bay meaning sees (first_of (size s) l.items (meaning l.initial.rack)) (length l.initial.sheet) (take l.call-index l.calls) (vec_items l.answers) w l.drawer l.rack l.watch)
+    → History s known_of open_bay meaning sees (first_of (size s) l.items (meaning l.initial.rack)) (length l.initial.sheet) (take l.call-index l.calls) (vec_items l.answers) w l.drawer l.rack l.watch)

@@ -9,7 +9,7 @@ use Rattle.bank.proofs.turns.get.Goals.{in-Ok, in-Err}
 pub returns : goal.returns
 returns g c =
     let s = g.F.Field.structure in
-    let k = knows s c.args.book in
+    let k = knows c.args.book in
     let m = g.R.Reading.meaning c.args.rack.now in
     let room = length c.args.sheet.now in
     let same = c.get.ensures.after in
@@ -22,7 +22,7 @@ returns g c =
       | in-Err w ↦ let is = w.answer-is ∙ ap Refused w.from.ensures in
           record {
             turned = turn_get s room k m c.args.item c.args.line (Err w.in-Err.fault) (λ _. Unit {0}) _ _ is w.in-Err.ensures.refused tt same;
-            kept = is_refused _ _ is (refl, same, w.in-Err.ensures.gives);
+            kept = is_refused _ _ is (refl, same, w.in-Err.ensures.sheet_kept);
             long = c.get.ensures.long;
           }
     ]

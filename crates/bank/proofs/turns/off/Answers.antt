@@ -10,7 +10,7 @@ use Rattle.bank.proofs.turns.off.Goals.{in-Ok, in-Err}
 
 pub returns : goal.returns
 returns g c =
-    let k = known_of g.F.Field.structure c.args.drawer in
+    let k = known_of c.args.drawer in
     let m = g.R.Reading.meaning c.args.rack.now in
     let rack = c.off.ensures.after in
     elim c.match-off.branch [

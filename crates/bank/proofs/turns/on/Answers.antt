@@ -10,7 +10,7 @@ use Rattle.bank.proofs.turns.on.Goals.{in-Ok, in-Err}
 
 pub returns : goal.returns
 returns g c =
-    let k = known_of g.F.Field.structure c.args.drawer in
+    let k = known_of c.args.drawer in
     let m = g.R.Reading.meaning c.args.rack.now in
     let rack = c.on.ensures.after in
     elim c.match-on.branch [

@@ -10,19 +10,19 @@ use Rattle.bank.proofs.turns.post.Goals.{in-Ok, in-Err}
 pub returns : goal.returns
 returns g c =
     let s = g.F.Field.structure in
-    let k = knows s c.args.book in
+    let k = knows c.args.book in
     let m = g.R.Reading.meaning c.args.rack.now in
     let room = length c.args.sheet.now in
     elim c.match-post.branch [
       | in-Ok w ↦ record {
-        turned = turn_post s room k m c.args.item c.args.line c.args.word (Ok tt) (λ _. ⊥) _ _ _ w.answer-is w.in-Ok.ensures.refused w.in-Ok.ensures.then (λ f q. absurd q);
+        turned = turn_post s room k m c.args.item c.args.line c.args.word (Ok tt) (λ _. ⊥) _ _ _ w.answer-is w.in-Ok.ensures.refused w.in-Ok.ensures.posted (λ f q. absurd q);
         kept = is_done _ w.answer-is;
         long = c.post.ensures.long;
       }
-      | in-Err w ↦ let is = w.answer-is ∙ ap Refused w.from.ensures in let same = w.in-Err.ensures.then in
+      | in-Err w ↦ let is = w.answer-is ∙ ap Refused w.from.ensures in let same = w.in-Err.ensures in
           record {
-            turned = turn_post s room k m c.args.item c.args.line c.args.word (Err w.in-Err.fault) (λ _. Unit {0}) _ _ _ is w.in-Err.ensures.refused tt (λ f q. (ap (knows s) same.0, same.1));
-            kept = is_refused _ _ is (ap Closed same.0, same.1, same.2);
+            turned = turn_post s room k m c.args.item c.args.line c.args.word (Err w.in-Err.fault) (λ _. Unit {0}) _ _ _ is w.in-Err.ensures.refused tt (λ f q. (ap knows same.book_kept, same.rack_kept));
+            kept = is_refused _ _ is (ap Closed same.book_kept, same.rack_kept, same.sheet_kept);
             long = c.post.ensures.long;
           }
     ]

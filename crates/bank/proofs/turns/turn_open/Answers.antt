@@ -15,7 +15,7 @@ returns-in-On g c = record { turned = λ room. rw c.in-On.is (c.on.ensures.turne
 pub returns-in-Get : goal.returns-in-Get
 returns-in-Get g c =
     let s = g.F.Field.structure in
-    let k = knows s c.args.book.book in
+    let k = knows c.args.book.book in
     let m = g.R.Reading.meaning c.args.rack.now in
     let bay = c.args.book.bay in
     record {
