@@ -1,2 +1,1 @@
-mod Done
 pub mod Starts

@@ -12,7 +12,7 @@ use Rattle.ledger.proofs.Starting.{stands_opening}
 
 -- The start leaves the rack's sizes and switches.
 abbrev pub first_of : ℕ → ℕ → Meaning → Ledger
-first_of q items m = opening items m.lines q m.bays m.switch
+first_of q items m = opening q items (front_of m)
 
 module _ {K : Type 0} (s : Structure K) (items : ℕ) (m m₀ : Meaning) (k : Known) (none : why_start (size s) items (front_of m) ≡ None) (book : k ≡ opened items m) (rack : m₀ ≡ cleared m) where
   pub same_first : first_of (size s) items m ≡ first_of (size s) items m₀

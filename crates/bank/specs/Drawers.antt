@@ -1,10 +1,9 @@
 -- The drawer of a bank, as the ledger sees it. Assumes nothing.
-use Rattle.std.specs.Prelude.{◌≡◌, ℕ, Some, None, Option}
+use Rattle.std.specs.Prelude.{ℕ, Some, None, Option}
 use Rattle.field.specs.Structure.{Structure}
 use Rattle.rack.specs.Meaning.{Meaning}
-use Rattle.rules.specs.Known.{Known, front_of}
-use Rattle.rules.specs.Rules.{why_start}
-use Rattle.book.specs.declared.book.Book.{Book}
+use Rattle.rules.specs.Known.{Known}
+use Rattle.book.specs.Kept.{Kept}
 use Rattle.book.specs.Known.{knows}
 use Rattle.call.specs.declared.Call.{Call}
 use Rattle.ledger.specs.declared.Answer.{Answer}
@@ -12,11 +11,9 @@ use Rattle.ledger.specs.declared.Answer.TheVariants.{Done, Word, Refused, NotAll
 use Rattle.ledger.specs.Stands.{Turn}
 use Rattle.bank.specs.declared.drawers.Drawer.{Drawer}
 use Rattle.bank.specs.declared.drawers.Drawer.TheVariants.{Closed, Open}
-use Rattle.bank.specs.declared.runs.NotStarted.{NotStarted}
-use Rattle.bank.specs.declared.runs.NotStarted.TheVariants.{Memory, Refused as StartRefused}
 
 module _ {K : Type 0} where
-  abbrev pub book_of : Drawer K → Book K
+  abbrev pub book_of : Drawer K → Kept
   book_of (Closed book) = book
   book_of (Open book) = book.book
 
@@ -39,8 +36,3 @@ UnlessDone Done same = Unit {0}
 UnlessDone (Word w) same = Unit {0}
 UnlessDone (Refused f) same = same
 UnlessDone NotAllowed same = same
-
--- Why a run did not start.
-abbrev pub Reason : ℕ → ℕ → Meaning → NotStarted → Type 0
-Reason q items m Memory = Unit {0}
-Reason q items m (StartRefused f) = why_start q items (front_of m) ≡ Some f

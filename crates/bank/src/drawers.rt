@@ -13,7 +13,7 @@ pub enum Drawer<F: BaseField> {
 }
 
 impl<F: BaseField> Drawer<F> {
-    // Whether the book marks the bay as behind.
+    // Whether the book marks the bay as behind. The two books are two types, so each has its arm.
     pub fn is_behind(&self, bay: usize) -> bool
         ensures { result ≡ (known_of self.now).behind bay }
     {

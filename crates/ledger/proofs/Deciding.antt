@@ -26,14 +26,14 @@ use Rattle.ledger.specs.Runs.{Undecided}
 use Rattle.rules.proofs.Knowing.{put_same, put_other}
 use Rattle.ledger.proofs.Counts.{count_fewer, others, count_but_one, some_of}
 use Rattle.rules.proofs.Refusals.{good}
-use Rattle.ledger.proofs.Lines.{getD_row, posted_item, posted_line}
+use Rattle.ledger.proofs.Lines.{get_or_row, posted_item, posted_line}
 use Rattle.ledger.proofs.Kept.{same_present, present_word}
 
 -- a get that no rule refuses is not refused
 get_said : (drawer : Option ℕ) (why : Option BookFault) (x : ℕ) (f : Fault) → on_verdict (closed drawer (by_book why)) (Word x) Refused NotAllowed ≡ Refused f → why ≡ None → ⊥
-get_said None None x f e z = let y : ◌≡◌ {A = ℕ} 0 1 = cc in omega arith
-get_said None (Some g) x f e z = let y : ◌≡◌ {A = ℕ} 0 1 = cc in omega arith
-get_said (Some bay) why x f e z = let y : ◌≡◌ {A = ℕ} 0 1 = cc in omega arith
+get_said None None x f e z = cc
+get_said None (Some g) x f e z = cc
+get_said (Some bay) why x f e z = cc
 
 -- more than four bays are absent, and the item's own is one of them
 abbrev lost : Ledger → ℕ → Bool
@@ -88,9 +88,9 @@ module _ {K : Type 0} (s : Structure K) (l : Ledger) (m : Meaning) (sound : Soun
           | inl on ↦ absurd (both_ways _ e (from bay h on))
           | inr off ↦ off
         ] in
-        let (other, other_line, agrees) = one_exists s l.items in_field few four (row changed (l.items + 4)) (λ bay h. rw (getD_row changed (l.items + 4) bay h) (changed_small bay)) in
+        let (other, other_line, agrees) = one_exists s l.items in_field few four (row changed (l.items + 4)) (λ bay h. rw (get_or_row changed (l.items + 4) bay h) (changed_small bay)) in
         let holds : (bay : ℕ) → bay < l.items + 4 → others (absent l.switch l.behind) (item + 4) bay ≡ false → get_or (codeword s other) bay 0 ≡ changed bay
-        = λ bay h e. agrees bay h (kept bay h e) ∙ getD_row changed (l.items + 4) bay h in
+        = λ bay h e. agrees bay h (kept bay h e) ∙ get_or_row changed (l.items + 4) bay h in
         let there : (bay : ℕ) → present l.switch l.behind bay ≡ true → bay ≡ item + 4 → ⊥
         = λ bay here e. both_ways (present l.switch l.behind (item + 4)) (not-true _ own) (ap (present l.switch l.behind) (sym e) ∙ here) in
         record {

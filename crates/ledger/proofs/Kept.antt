@@ -196,7 +196,7 @@ module _ {K : Type 0} (s : Structure K) (l : Ledger) (k : Known) (drawer : Optio
 
   -- a bay that the rack has is switched
   pub switched_stands : (bay : ℕ) (on : Bool)
-      → Stands s (record { items = l.items; lines = l.lines; size = l.size; bays = l.bays; count = l.count; switch = put l.switch bay on; behind = l.behind; drawer = l.drawer }) k drawer (with_switch m bay on)
+      → Stands s (record l { switch = put l.switch bay on }) k drawer (with_switch m bay on)
   switched_stands bay on = record {
     marks = st.marks;
     at_most_four = st.at_most_four;
@@ -232,7 +232,7 @@ module _ {K : Type 0} (s : Structure K) (l : Ledger) (k : Known) (drawer : Optio
 
   -- a bay that was let go is put in again: it is behind, and any words may stand in it
   pub seated_stands : (bay : ℕ) (ws : ℕ → ℕ) → l.behind bay ≡ true
-      → Stands s (record { items = l.items; lines = l.lines; size = l.size; bays = l.bays; count = l.count; switch = put l.switch bay true; behind = l.behind; drawer = None }) k None (with_bay m bay ws)
+      → Stands s (record l { switch = put l.switch bay true; drawer = None }) k None (with_bay m bay ws)
   seated_stands bay ws out = record {
     marks = st.marks;
     at_most_four = st.at_most_four;

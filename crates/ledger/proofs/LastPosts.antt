@@ -27,8 +27,8 @@ module _ (room item line : ℕ) where
 
   undone : (v : Verdict) → on_verdict v Done Refused NotAllowed ≡ Done → v ≡ accepted
   undone accepted e = refl
-  undone (refused why) e = let z : ◌≡◌ {A = ℕ} 0 1 = cc in absurd (omega arith)
-  undone not_allowed e = let z : ◌≡◌ {A = ℕ} 0 1 = cc in absurd (omega arith)
+  undone (refused why) e = absurd cc
+  undone not_allowed e = absurd cc
 
   posting : (l : Ledger) (i j w : ℕ) → Step l (Post i j w)
   posting l i j w = go (verdict l room (Post i j w)) refl (eqb item i && eqb line j) refl
@@ -47,23 +47,23 @@ module _ (room item line : ℕ) where
                 let j-is : line ≡ j = cc in
                 both_ways (eqb item i && eqb line j) e (and_from (eqb item i) (eqb line j) (eq-eqb item i i-is) (eq-eqb line j j-is)),
           )
-      go (refused why) v t e = inr (rw v refl, λ u _ done. let no_such : refused why ≡ accepted = sym v ∙ undone _ done in let z : ◌≡◌ {A = ℕ} 0 1 = cc in omega arith)
-      go not_allowed v t e = inr (rw v refl, λ u _ done. let no_such : not_allowed ≡ accepted = sym v ∙ undone _ done in let z : ◌≡◌ {A = ℕ} 0 1 = cc in omega arith)
+      go (refused why) v t e = inr (rw v refl, λ u _ done. let no_such : refused why ≡ accepted = sym v ∙ undone _ done in cc)
+      go not_allowed v t e = inr (rw v refl, λ u _ done. let no_such : not_allowed ≡ accepted = sym v ∙ undone _ done in cc)
 
   step : (l : Ledger) (c : Call) → Step l c
   step l (Post i j w) = posting l i j w
-  step l (Get i j) = inr (stays (verdict l room (Get i j)) _ l refl, λ w e _. let z : ◌≡◌ {A = ℕ} 0 1 = cc in omega arith)
-  step l (Off b) = inr (stays (verdict l room (Off b)) _ l refl, λ w e _. let z : ◌≡◌ {A = ℕ} 0 1 = cc in omega arith)
-  step l (On b) = inr (stays (verdict l room (On b)) _ l refl, λ w e _. let z : ◌≡◌ {A = ℕ} 0 1 = cc in omega arith)
-  step l (Release b) = inr (stays (verdict l room (Release b)) _ l refl, λ w e _. let z : ◌≡◌ {A = ℕ} 0 1 = cc in omega arith)
-  step l Seat = inr (stays (verdict l room Seat) _ l refl, λ w e _. let z : ◌≡◌ {A = ℕ} 0 1 = cc in omega arith)
-  step l (Mend b) = inr (stays (verdict l room (Mend b)) _ l refl, λ w e _. let z : ◌≡◌ {A = ℕ} 0 1 = cc in omega arith)
+  step l (Get i j) = inr (stays (verdict l room (Get i j)) _ l refl, λ w e _. cc)
+  step l (Off b) = inr (stays (verdict l room (Off b)) _ l refl, λ w e _. cc)
+  step l (On b) = inr (stays (verdict l room (On b)) _ l refl, λ w e _. cc)
+  step l (Release b) = inr (stays (verdict l room (Release b)) _ l refl, λ w e _. cc)
+  step l Seat = inr (stays (verdict l room Seat) _ l refl, λ w e _. cc)
+  step l (Mend b) = inr (stays (verdict l room (Mend b)) _ l refl, λ w e _. cc)
 
   -- a word that a get gives is the count
   word_of : (v : Verdict) (x y : ℕ) → on_verdict v (Word y) Refused NotAllowed ≡ Word x → y ≡ x
   word_of accepted x y e = cc
-  word_of (refused why) x y e = let z : ◌≡◌ {A = ℕ} 0 1 = cc in absurd (omega arith)
-  word_of not_allowed x y e = let z : ◌≡◌ {A = ℕ} 0 1 = cc in absurd (omega arith)
+  word_of (refused why) x y e = absurd cc
+  word_of not_allowed x y e = absurd cc
 
   module _ (l : Ledger) (calls : List Call) (answers : List Answer) (new : l.count item line ≡ 0)
       (told : (n : ℕ) → n < length calls → answer_at answers n ≡ answer (after_all l room (take n calls)) room (call_at calls n)) where

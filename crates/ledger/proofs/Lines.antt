@@ -24,29 +24,29 @@ unfolding row
 length_row f zero = refl
 length_row f (suc n) = ap suc (length_row (λ i. f (suc i)) n)
 
-pub getD_row : (f : ℕ → ℕ) (n i : ℕ) → i < n → get_or (row f n) i 0 ≡ f i
+pub get_or_row : (f : ℕ → ℕ) (n i : ℕ) → i < n → get_or (row f n) i 0 ≡ f i
 unfolding row
-getD_row f zero i h = absurd (omega arith)
-getD_row f (suc n) zero h = refl
-getD_row f (suc n) (suc i) h = getD_row (λ j. f (suc j)) n i (omega arith)
+get_or_row f zero i h = absurd (omega arith)
+get_or_row f (suc n) zero h = refl
+get_or_row f (suc n) (suc i) h = get_or_row (λ j. f (suc j)) n i (omega arith)
 
 -- a list of n numbers that has f i at place i
 pub is_row : (f : ℕ → ℕ) (n : ℕ) (items : List ℕ) → length items ≡ n → ((i : ℕ) → i < n → get_or items i 0 ≡ f i) → items ≡ row f n
 is_row f n items long at =
-    ext_get_or 0 items (row f n) (long ∙ sym (length_row f n)) (λ i h. at i (omega arith) ∙ sym (getD_row f n i (omega arith)))
+    ext_get_or 0 items (row f n) (long ∙ sym (length_row f n)) (λ i h. at i (omega arith) ∙ sym (get_or_row f n i (omega arith)))
 
 pub row_ext : (f g : ℕ → ℕ) (n : ℕ) → ((i : ℕ) → i < n → f i ≡ g i) → row f n ≡ row g n
-row_ext f g n same = is_row g n (row f n) (length_row f n) (λ i h. getD_row f n i h ∙ same i h)
+row_ext f g n same = is_row g n (row f n) (length_row f n) (λ i h. get_or_row f n i h ∙ same i h)
 
 pub set_row : (f : ℕ → ℕ) (n i w : ℕ) → i < n → set (row f n) i w ≡ row (put f i w) n
 set_row f n i w h = is_row (put f i w) n (set (row f n) i w) (length-set (row f n) i w ∙ length_row f n) (λ j k.
     elim (cases_eq j i) [
       | inl e ↦ rw e (get_or-set_same (row f n) i w 0 (rw (length_row f n) h) ∙ sym (put_same f i w))
-      | inr d ↦ get_or-set_other (row f n) i j w 0 d ∙ getD_row f n j k ∙ sym (put_other f i w j d)
+      | inr d ↦ get_or-set_other (row f n) i j w 0 d ∙ get_or_row f n j k ∙ sym (put_other f i w j d)
     ])
 
 pub posted_item : (l : Ledger) (item line : ℕ) → item < l.items → get_or (posted l line) item 0 ≡ l.count item line
-posted_item l item line h = getD_row (λ i. l.count i line) l.items item h
+posted_item l item line h = get_or_row (λ i. l.count i line) l.items item h
 
 module _ {K : Type 0} (s : Structure K) where
   pub codeword_small : (n : ℕ) (items : List ℕ) → Line s n items → (bay : ℕ) → bay < n + 4 → get_or (codeword s items) bay 0 < words s
@@ -69,7 +69,7 @@ module _ {K : Type 0} (s : Structure K) where
             ∙ (extend s).value_zero
         | inr high ↦
             let e : bay ≡ bay - 4 + 4 = omega arith in
-            ap (λ b. get_or (codeword s (row (λ _. 0) n)) b 0) e ∙ codeword_item s (row (λ _. 0) n) (bay - 4) ∙ getD_row (λ _. 0) n (bay - 4) (omega arith)
+            ap (λ b. get_or (codeword s (row (λ _. 0) n)) b 0) e ∙ codeword_item s (row (λ _. 0) n) (bay - 4) ∙ get_or_row (λ _. 0) n (bay - 4) (omega arith)
       ]
     where
       zero_of : element s 0 ≡ (extend s).zero
@@ -77,7 +77,7 @@ module _ {K : Type 0} (s : Structure K) where
 
       none : (i : ℕ) → i < length (row (λ _. 0) n) → (extend s).times (element s (get_or (row (λ _. 0) n) i 0)) (power (extend s) (point s i) bay) ≡ (extend s).zero
       none i k =
-          ap (λ w. (extend s).times (element s w) (power (extend s) (point s i) bay)) (getD_row (λ _. 0) n i (rw (length_row (λ _. 0) n) at k))
+          ap (λ w. (extend s).times (element s w) (power (extend s) (point s i) bay)) (get_or_row (λ _. 0) n i (rw (length_row (λ _. 0) n) at k))
           ∙ ap (λ x. (extend s).times x (power (extend s) (point s i) bay)) zero_of
           ∙ zero_times (extend s).ring (power (extend s) (point s i) bay)
 
@@ -108,7 +108,7 @@ module _ {K : Type 0} (s : Structure K) where
     pub posted_line : (line : ℕ) → Line s l.items (posted l line)
     posted_line line = record {
       long = length_row (λ item. l.count item line) l.items;
-      small = λ i h. rw (getD_row (λ item. l.count item line) l.items i h, ← square) (sound.small i line);
+      small = λ i h. rw (get_or_row (λ item. l.count item line) l.items i h, ← square) (sound.small i line);
     }
 
     pub posted_small : (line bay : ℕ) → bay < l.items + 4 → get_or (codeword s (posted l line)) bay 0 % words s ≡ get_or (codeword s (posted l line)) bay 0

@@ -22,15 +22,15 @@ use Rattle.rules.proofs.Refusals.{startable, postable, releasable}
 -- what an accepted call passed
 ruled_none : (why : Option Fault) → ruled why ≡ accepted → why ≡ None
 ruled_none None e = refl
-ruled_none (Some f) e = let z : ◌≡◌ {A = ℕ} 0 1 = cc in absurd (omega arith)
+ruled_none (Some f) e = absurd cc
 
 closed_none : (drawer : Option ℕ) (why : Option Fault) → closed drawer why ≡ accepted → (drawer ≡ None) × (why ≡ None)
 closed_none None why e = (refl, ruled_none why e)
-closed_none (Some bay) why e = let z : ◌≡◌ {A = ℕ} 0 1 = cc in absurd (omega arith)
+closed_none (Some bay) why e = absurd cc
 
 by_book_none : (why : Option BookFault) → by_book why ≡ None → why ≡ None
 by_book_none None e = refl
-by_book_none (Some f) e = let z : ◌≡◌ {A = ℕ} 0 1 = cc in absurd (omega arith)
+by_book_none (Some f) e = absurd cc
 
 -- an accepted call makes x of the ledger, and any other leaves it
 kept : (P : Ledger → Type 0) (v : Verdict) (x l : Ledger) → P l → (v ≡ accepted → P x) → P (on_verdict v x (λ _. l) l)
@@ -53,7 +53,7 @@ absent_if true false false e = e
 absent_if false behind c e = refl
 
 module _ {K : Type 0} (s : Structure K) where
-  pub sound_opening : (items : ℕ) (f : Front) → why_start (size s) items f ≡ None → Sound s (opening items f.lines (size s) f.bays f.switch)
+  pub sound_opening : (items : ℕ) (f : Front) → why_start (size s) items f ≡ None → Sound s (opening (size s) items f)
   sound_opening items f none =
       let ok = startable (size s) items f none in
       record {
@@ -74,65 +74,36 @@ module _ {K : Type 0} (s : Structure K) where
       squares = rw (order_is s) (pow_pos (extend s).bits)
 
   module _ (l : Ledger) (room : ℕ) (sound : Sound s l) where
+    -- no call changes the sizes
+    sound_with : (counts : ℕ → ℕ → ℕ) (switch behind : ℕ → Bool) (drawer : Option ℕ) → ((item line : ℕ) → counts item line < l.size * l.size) → count behind (l.items + 4) ≤ 4
+        → Out drawer (record l { behind = behind }) → Sound s (record l { count = counts; switch = switch; behind = behind; drawer = drawer })
+    sound_with counts switch behind drawer small few out = record { field = sound.field; some = sound.some; fits = sound.fits; bays = sound.bays; small = small; few = few; out = out_still drawer (record l { behind = behind }) _ refl (λ b e. e) out }
+
     posted_sound : (item line word : ℕ) → verdict l room (Post item line word) ≡ accepted → Sound s (change l (Post item line word))
     posted_sound item line word e =
         let (shut, why) = closed_none l.drawer (by_book (why_post (l.size * l.size) (known l) (front l) room item line word)) e in
         let ok = postable (l.size * l.size) (known l) (front l) room item line word (by_book_none _ why) in
-        record {
-          field = sound.field;
-          some = sound.some;
-          fits = sound.fits;
-          bays = sound.bays;
-          small = λ i j. cond_both (eqb i item && eqb j line) word (l.count i j) (λ w. w < l.size * l.size) (λ _. ok.small) (λ _. sound.small i j);
-          few =
-              let fewer : count (behind_after_post l.switch l.behind item) (l.items + 4) ≤ count (absent l.switch l.behind) (l.items + 4)
-              = count_fewer _ _ (l.items + 4) (λ bay h e. absent_if (l.switch bay) (l.behind bay) (concerned item bay) e) in
-              let same : count (absent l.switch l.behind) l.bays ≡ count (absent l.switch l.behind) (l.items + 4) = ap (count (absent l.switch l.behind)) sound.bays in
-              omega (arith, ok.few);
-          out = out_closed l.drawer _ shut;
-        }
+        let fewer : count (behind_after_post l.switch l.behind item) (l.items + 4) ≤ count (absent l.switch l.behind) (l.items + 4)
+        = count_fewer _ _ (l.items + 4) (λ bay h e. absent_if (l.switch bay) (l.behind bay) (concerned item bay) e) in
+        let same : count (absent l.switch l.behind) l.bays ≡ count (absent l.switch l.behind) (l.items + 4) = ap (count (absent l.switch l.behind)) sound.bays in
+        sound_with _ _ _ _ (λ i j. cond_both (eqb i item && eqb j line) word (l.count i j) (λ w. w < l.size * l.size) (λ _. ok.small) (λ _. sound.small i j)) (omega (arith, ok.few)) (out_closed l.drawer _ shut)
 
     -- the switches alone change
-    switched_sound : (switch : ℕ → Bool) → Sound s (record { items = l.items; lines = l.lines; size = l.size; bays = l.bays; count = l.count; switch = switch; behind = l.behind; drawer = l.drawer })
-    switched_sound switch = record {
-      field = sound.field;
-      some = sound.some;
-      fits = sound.fits;
-      bays = sound.bays;
-      small = sound.small;
-      few = sound.few;
-      out = out_still l.drawer l _ refl (λ b e. e) sound.out;
-    }
+    switched_sound : (switch : ℕ → Bool) → Sound s (record l { switch = switch })
+    switched_sound switch = sound_with _ _ _ _ sound.small sound.few sound.out
 
     released_sound : (bay : ℕ) → verdict l room (Release bay) ≡ accepted → Sound s (change l (Release bay))
     released_sound bay e =
         let (shut, why) = closed_none l.drawer (by_book (why_release (known l) bay)) e in
         let ok = releasable (known l) bay (by_book_none _ why) in
-        record {
-          field = sound.field;
-          some = sound.some;
-          fits = sound.fits;
-          bays = sound.bays;
-          small = sound.small;
-          few = omega (arith, ok.few, count_but_one l.behind bay (l.items + 4));
-          out = (ok.inside, put_same l.behind bay true);
-        }
+        sound_with _ _ _ _ sound.small (omega (arith, ok.few, count_but_one l.behind bay (l.items + 4))) (ok.inside, put_same l.behind bay true)
 
     mended_sound : (bay : ℕ) → verdict l room (Mend bay) ≡ accepted → Sound s (change l (Mend bay))
     mended_sound bay e =
         let (shut, why) = closed_none l.drawer (why_mend (known l) (front l) room bay) e in
-        record {
-          field = sound.field;
-          some = sound.some;
-          fits = sound.fits;
-          bays = sound.bays;
-          small = sound.small;
-          few =
-              let fewer : count (put l.behind bay false) (l.items + 4) ≤ count l.behind (l.items + 4)
-              = count_fewer _ _ (l.items + 4) (λ b h e. fewer_behind (eqb b bay) (l.behind b) e) in
-              omega (arith, sound.few);
-          out = out_closed l.drawer _ shut;
-        }
+        let fewer : count (put l.behind bay false) (l.items + 4) ≤ count l.behind (l.items + 4)
+        = count_fewer _ _ (l.items + 4) (λ b h e. fewer_behind (eqb b bay) (l.behind b) e) in
+        sound_with _ _ _ _ sound.small (omega (arith, sound.few)) (out_closed l.drawer _ shut)
       where
         fewer_behind : (t x : Bool) → cond t false x ≡ true → x ≡ true
         fewer_behind true true e = refl
@@ -140,15 +111,7 @@ module _ {K : Type 0} (s : Structure K) where
         fewer_behind false x e = e
 
     seated_sound : Sound s (change l Seat)
-    seated_sound = record {
-      field = sound.field;
-      some = sound.some;
-      fits = sound.fits;
-      bays = sound.bays;
-      small = sound.small;
-      few = sound.few;
-      out = tt;
-    }
+    seated_sound = sound_with _ _ _ _ sound.small sound.few tt
 
     pub sound_after : (c : Call) → Sound s (after l room c)
     sound_after (Post item line word) = kept (Sound s) (verdict l room (Post item line word)) _ l sound (posted_sound item line word)

@@ -18,7 +18,7 @@ cleared_word bay line bays lines top w on same h k e = grind (arith, nat_tests)
 
 module _ {K : Type 0} (s : Structure K) where
   pub stands_opening : (items : ℕ) (m : Meaning) (k : Known) (m' : Meaning) → why_start (size s) items (front_of m) ≡ None → k ≡ opened items m → m' ≡ cleared m
-      → Stands s (opening items m.lines (size s) m.bays m.switch) k None m'
+      → Stands s (opening (size s) items (front_of m)) k None m'
   stands_opening items m k m' none book rack = rw (book, rack) record {
     marks = λ bay. refl;
     at_most_four = (sound_opening s items (front_of m) none).few;

@@ -1,5 +1,5 @@
 -- One call to a bank: the answer is the ledger's, and the book and the rack stand by the ledger after it. Assumes nothing.
-use Rattle.std.proofs.Common.{◌≡◌, ℕ, ◌*◌, ◌<◌, Bool, true, false, cond, leb, Some, None, Ok, Err, Option, Result, sym, refl, ap, ◌∙◌, subst, arith, MatchResult}
+use Rattle.std.proofs.Common.{◌≡◌, ℕ, ◌*◌, ◌<◌, Bool, true, false, cond, leb, Some, None, Ok, Err, Option, Result, sym, refl, ap, ◌∙◌, subst, arith, IfOk, OnOk, OnErr}
 use Rattle.fault.specs.Refusing.{when, refusal_of}
 use Rattle.fault.specs.declared.fault.BookFault.{BookFault}
 use Rattle.fault.specs.declared.fault.RackFault.{RackFault}
@@ -20,11 +20,16 @@ use Rattle.ledger.specs.declared.Answer.{Answer}
 use Rattle.ledger.specs.declared.Answer.TheVariants.{Done, Word, Refused, NotAllowed}
 use Rattle.ledger.specs.Ledger.{Ledger, accepted, refused, not_allowed, known, front, ruled, closed, opened, by_book, why_switch, verdict, change, seated, said, answer, after}
 use Rattle.ledger.specs.Stands.{Out, Sound, Stands, Turn}
+use Rattle.ledger.specs.Answering.{AnswerTo}
 use Rattle.rules.proofs.Refusals.{gettable, postable, mendable}
 use Rattle.ledger.proofs.Soundness.{sound_after}
 use Rattle.ledger.proofs.Lines.{square}
 use Rattle.ledger.proofs.Same.{same_get, same_post, same_mend, same_release, same_seat}
 use Rattle.ledger.proofs.Kept.{got_count, posted_stands, mended_stands, switched_stands, released_stands, seated_stands}
+
+-- an error is answered by the fault that it is
+refused_by : {f g : Fault} {a : Answer} → g ≡ f → a ≡ Refused g → a ≡ Refused f
+refused_by e is = is ∙ ap Refused e
 
 module _ {K : Type 0} (s : Structure K) (room : ℕ) where
   module _ (l : Ledger) (c : Call) {a : Answer} {k : Known} {d : Option ℕ} {m : Meaning} where
@@ -51,36 +56,34 @@ module _ {K : Type 0} (s : Structure K) (room : ℕ) where
     post_ruled item line word o l sound st why =
         shut l _ _ st (ap by_book (why ∙ ap (λ qq. why_post qq k (front_of m) room item line word) (sym (square s l sound)) ∙ same_post s l k None m sound st (l.size * l.size) room item line word))
 
-    -- Q is what else is known of a refusal.
-    pub turn_get : (item line : ℕ) (r : Result ℕ BookFault) (Q : BookFault → Type 0) (a : Answer) (m' : Meaning) → MatchResult r (λ v. a ≡ Word v) (λ f. a ≡ Refused (Book f))
-        → refusal_of r ≡ why_get k (front_of m) room item line → MatchResult r (Got s k m item line) Q → m' ≡ m
+    pub turn_get : (item line : ℕ) (r : Result ℕ BookFault) (a : Answer) (m' : Meaning) → AnswerTo (λ w x. x ≡ Word w) (λ e f. f ≡ Book e) r a
+        → refusal_of r ≡ why_get k (front_of m) room item line → IfOk r (Got s k m item line) → m' ≡ m
         → Turn s room (Get item line) k None m a k None m'
-    turn_get item line (Ok v) Q a m' is why got same l sound st =
+    turn_get item line (Ok v) a m' is why got same l sound st =
         accepts l (Get item line) (shut l _ _ st (ap by_book (why ∙ same_get s l k None m sound st room item line)))
         (is ∙ ap Word (got_count s l k None m sound st room item line v (gettable k (front_of m) room item line (sym why)) got)) (rw same st)
-    turn_get item line (Err f) Q a m' is why got same l sound st =
-        refuses l (Get item line) (Book f) (shut l _ _ st (ap by_book (why ∙ same_get s l k None m sound st room item line))) is (rw same st)
+    turn_get item line (Err e) a m' (f, same_fault, is) why got same l sound st =
+        refuses l (Get item line) (Book e) (shut l _ _ st (ap by_book (why ∙ same_get s l k None m sound st room item line))) (refused_by same_fault is) (rw same st)
 
-    pub turn_post : (item line word : ℕ) (r : Result (Unit {0}) BookFault) (Q : BookFault → Type 0) (a : Answer) (k' : Known) (m' : Meaning) → MatchResult r (λ _. a ≡ Done) (λ f. a ≡ Refused (Book f))
-        → refusal_of r ≡ why_post (words s) k (front_of m) room item line word → MatchResult r (λ _. Posted s k m item line word k' m') Q → ((f : BookFault) → Q f → (k' ≡ k) × (m' ≡ m))
+    -- P is what is known of the book after a refusal.
+    pub turn_post : (item line word : ℕ) (r : Result (Unit {0}) BookFault) (P : Type 0) (a : Answer) (k' : Known) (m' : Meaning) → AnswerTo (λ _ x. x ≡ Done) (λ e f. f ≡ Book e) r a
+        → refusal_of r ≡ why_post (words s) k (front_of m) room item line word → OnOk r (Posted s k m item line word k' m') → OnErr r P → (P → k' ≡ k) → OnErr r (m' ≡ m)
         → Turn s room (Post item line word) k None m a k' None m'
-    turn_post item line word (Ok u) Q a k' m' is why then kept l sound st =
+    turn_post item line word (Ok u) P a k' m' is why posted kept same rack l sound st =
         let v : verdict l room (Post item line word) ≡ accepted = post_ruled item line word None l sound st why in
         accepts l (Post item line word) v is
-        (posted_stands s l k None m sound st (words s) room item line word k' m' (postable (words s) k (front_of m) room item line word (sym why)) (accepted_sound l (Post item line word) v sound) then)
-    turn_post item line word (Err f) Q a k' m' is why then kept l sound st =
-        let (book, rack) = kept f then in
-        refuses l (Post item line word) (Book f) (post_ruled item line word (Some f) l sound st why) is (rw (book, rack) st)
+        (posted_stands s l k None m sound st (words s) room item line word k' m' (postable (words s) k (front_of m) room item line word (sym why)) (accepted_sound l (Post item line word) v sound) posted)
+    turn_post item line word (Err e) P a k' m' (f, same_fault, is) why posted kept same rack l sound st =
+        refuses l (Post item line word) (Book e) (post_ruled item line word (Some e) l sound st why) (refused_by same_fault is) (rw (same kept, rack) st)
 
-    pub turn_mend : (bay : ℕ) (r : Result (Unit {0}) Fault) (Q : Fault → Type 0) (a : Answer) (k' : Known) (m' : Meaning) → MatchResult r (λ _. a ≡ Done) (λ f. a ≡ Refused f)
-        → refusal_of r ≡ why_mend k (front_of m) room bay → MatchResult r (λ _. Mended s k m bay k' m') Q → ((f : Fault) → Q f → (k' ≡ k) × (m' ≡ m))
+    pub turn_mend : (bay : ℕ) (r : Result (Unit {0}) Fault) (P : Type 0) (a : Answer) (k' : Known) (m' : Meaning) → AnswerTo (λ _ x. x ≡ Done) (λ e f. f ≡ e) r a
+        → refusal_of r ≡ why_mend k (front_of m) room bay → OnOk r (Mended s k m bay k' m') → OnErr r P → (P → k' ≡ k) → OnErr r (m' ≡ m)
         → Turn s room (Mend bay) k None m a k' None m'
-    turn_mend bay (Ok u) Q a k' m' is why then kept l sound st =
+    turn_mend bay (Ok u) P a k' m' is why mended kept same rack l sound st =
         let v : verdict l room (Mend bay) ≡ accepted = shut l _ _ st (why ∙ same_mend s l k None m sound st room bay) in
-        accepts l (Mend bay) v is (mended_stands s l k None m sound st bay k' m' (mendable k (front_of m) room bay (sym why)) (accepted_sound l (Mend bay) v sound) then)
-    turn_mend bay (Err f) Q a k' m' is why then kept l sound st =
-        let (book, rack) = kept f then in
-        refuses l (Mend bay) f (shut l _ _ st (why ∙ same_mend s l k None m sound st room bay)) is (rw (book, rack) st)
+        accepts l (Mend bay) v is (mended_stands s l k None m sound st bay k' m' (mendable k (front_of m) room bay (sym why)) (accepted_sound l (Mend bay) v sound) mended)
+    turn_mend bay (Err e) P a k' m' (f, same_fault, is) why mended kept same rack l sound st =
+        refuses l (Mend bay) e (shut l _ _ st (why ∙ same_mend s l k None m sound st room bay)) (refused_by same_fault is) (rw (same kept, rack) st)
 
     pub turn_released : (bay bay' : ℕ) (k' : Known) → why_release k bay ≡ None → bay' ≡ bay → k' ≡ with_behind k (put k.behind bay true)
         → Turn s room (Release bay) k None m Done k' (Some bay') m
@@ -106,7 +109,7 @@ module _ {K : Type 0} (s : Structure K) (room : ℕ) where
         accepts l Seat (seat_ruled bay None l sound st why) refl
         (subst (λ x. Stands s (change l Seat) x None m') (sym book)
         (subst (λ x. Stands s (change l Seat) k None x) (sym with)
-        (subst (λ o. Stands s (record { items = l.items; lines = l.lines; size = l.size; bays = l.bays; count = l.count; switch = seated o l.switch; behind = l.behind; drawer = None }) k None (with_bay m bay (m'.word bay))) st.open_drawer
+        (subst (λ o. Stands s (record l { switch = seated o l.switch; drawer = None }) k None (with_bay m bay (m'.word bay))) st.open_drawer
         (seated_stands s l k (Some bay) m sound st bay (m'.word bay) out.1))))
 
     pub turn_not_seated : (bay bay' : ℕ) (f : BookFault) (k' : Known) (m' : Meaning) → why_seat k (front_of m) ≡ Some f → bay' ≡ bay → k' ≡ k → m' ≡ m
@@ -134,10 +137,10 @@ module _ {K : Type 0} (s : Structure K) (room : ℕ) where
     closed_seat l sound st = bars l Seat (ap (λ o. opened o (by_book (why_seat (known l) (front l)))) (sym st.open_drawer)) refl st
 
     -- the switches, whatever the drawer
-    module _ (drawer : Option ℕ) (bay : ℕ) (r : Result (Unit {0}) RackFault) (a : Answer) (m' : Meaning) (is : MatchResult r (λ _. a ≡ Done) (λ f. a ≡ Refused (Rack f))) (told : r ≡ switch_answer m bay) where
+    module _ (drawer : Option ℕ) (bay : ℕ) (r : Result (Unit {0}) RackFault) (a : Answer) (m' : Meaning) (is : AnswerTo (λ _ x. x ≡ Done) (λ e f. f ≡ Rack e) r a) (told : r ≡ switch_answer m bay) where
       -- c is the call that turns the switch
       switching : (c : Call) (on : Bool) (l : Ledger) → verdict l room c ≡ ruled (why_switch l bay) → said l c ≡ Done
-          → change l c ≡ record { items = l.items; lines = l.lines; size = l.size; bays = l.bays; count = l.count; switch = put l.switch bay on; behind = l.behind; drawer = l.drawer }
+          → change l c ≡ record l { switch = put l.switch bay on }
           → m' ≡ switch_after m bay on → Sound s l → Stands s l k drawer m → (a ≡ answer l room c) × Stands s (after l room c) k drawer m'
       switching c on l v done new rack sound st = go (leb l.bays bay) refl
         where
@@ -148,7 +151,7 @@ module _ {K : Type 0} (s : Structure K) (room : ℕ) where
           go true e =
               let err : r ≡ Err (NoBay bay) = told ∙ ap (λ o. rack_answer o tt) (refusal true e) in
               let same : m' ≡ m = rack ∙ ap (λ o. rack_after o m (with_switch m bay on)) (refusal true e) in
-              refuses l c (Rack (NoBay bay)) (v ∙ ap (λ t. ruled (when t (Rack (NoBay bay)))) e) (rw err at is) (rw same st)
+              refuses l c (Rack (NoBay bay)) (v ∙ ap (λ t. ruled (when t (Rack (NoBay bay)))) e) (let (f, same_fault, given) = rw err at is in refused_by same_fault given) (rw same st)
           go false e =
               let ok : r ≡ Ok tt = told ∙ ap (λ o. rack_answer o tt) (refusal false e) in
               let with : m' ≡ with_switch m bay on = rack ∙ ap (λ o. rack_after o m (with_switch m bay on)) (refusal false e) in

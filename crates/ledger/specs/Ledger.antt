@@ -28,16 +28,17 @@ pub record Ledger : Type 0 where
   -- the bay of the open drawer
   pub drawer : Option ℕ
 
--- After the start: the counts are zero, and the silent bays are behind.
-abbrev pub opening : ℕ → ℕ → ℕ → ℕ → (ℕ → Bool) → Ledger
-opening items lines size bays switch = record {
+-- After the start, by the size of the field, the number of items and the rack's front: the counts are zero, and the silent bays
+-- are behind.
+abbrev pub opening : ℕ → ℕ → Front → Ledger
+opening size items f = record {
   items = items;
-  lines = lines;
+  lines = f.lines;
   size = size;
-  bays = bays;
+  bays = f.bays;
   count = λ item line. 0;
-  switch = switch;
-  behind = λ bay. nat_lt bay (items + 4) && not (switch bay);
+  switch = f.switch;
+  behind = λ bay. nat_lt bay (items + 4) && not (f.switch bay);
   drawer = None;
 }
 
@@ -92,13 +93,13 @@ seated (Some bay) switch = put switch bay true
 
 -- What an accepted call changes.
 abbrev pub change : Ledger → Call → Ledger
-change l (Post item line word) = record { items = l.items; lines = l.lines; size = l.size; bays = l.bays; count = with_count l.count item line word; switch = l.switch; behind = behind_after_post l.switch l.behind item; drawer = l.drawer }
+change l (Post item line word) = record l { count = with_count l.count item line word; behind = behind_after_post l.switch l.behind item }
 change l (Get item line) = l
-change l (Off bay) = record { items = l.items; lines = l.lines; size = l.size; bays = l.bays; count = l.count; switch = put l.switch bay false; behind = l.behind; drawer = l.drawer }
-change l (On bay) = record { items = l.items; lines = l.lines; size = l.size; bays = l.bays; count = l.count; switch = put l.switch bay true; behind = l.behind; drawer = l.drawer }
-change l (Release bay) = record { items = l.items; lines = l.lines; size = l.size; bays = l.bays; count = l.count; switch = l.switch; behind = put l.behind bay true; drawer = Some bay }
-change l Seat = record { items = l.items; lines = l.lines; size = l.size; bays = l.bays; count = l.count; switch = seated l.drawer l.switch; behind = l.behind; drawer = None }
-change l (Mend bay) = record { items = l.items; lines = l.lines; size = l.size; bays = l.bays; count = l.count; switch = l.switch; behind = put l.behind bay false; drawer = l.drawer }
+change l (Off bay) = record l { switch = put l.switch bay false }
+change l (On bay) = record l { switch = put l.switch bay true }
+change l (Release bay) = record l { behind = put l.behind bay true; drawer = Some bay }
+change l Seat = record l { switch = seated l.drawer l.switch; drawer = None }
+change l (Mend bay) = record l { behind = put l.behind bay false }
 
 abbrev pub on_verdict : {X : Type 0} → Verdict → X → (Fault → X) → X → X
 on_verdict accepted x f y = x

@@ -1,3 +1,4 @@
+pub mod Answering
 pub mod Ledger
 pub mod Runs
 pub mod Stands

@@ -48,7 +48,8 @@ module _ {K : Type 0} (s : Structure K) where
     pub differ : slice_index one item ≡ slice_index other item → ⊥
 
   -- The calls were made one by one, and after the start and after each of them the drawer and the rack were shown to a watcher:
-  -- the drawers and racks that it was shown, what it was before each look, and at the end what is left.
+  -- the drawers and racks that it was shown, what it was before each look, and at the end what is left. Four functions say what
+  -- the ledger sees of drawers, racks and watchers; a record of them would stand above Type 0, since `sees` gives types.
   pub record History {D R W : Type 0} (knows : D → Known) (open_bay : D → Option ℕ) (meaning : R → Meaning) (sees : W → D → R → W → Type 0)
       (l : Ledger) (room : ℕ) (calls : List Call) (answers : List Answer) (w : W) (d' : D) (r' : R) (w' : W) : Type 0 where
     pub drawer : ℕ → D

@@ -39,7 +39,7 @@ why_open offset items lines field =
 
 -- A hall opens with the switches of all its bays on.
 abbrev pub first_ledger : ℕ → ℕ → ℕ → Ledger
-first_ledger q items lines = opening items lines q (items + 4) (λ bay. ltb bay (items + 4))
+first_ledger q items lines = opening q items (record { bays = items + 4; lines = lines; switch = λ bay. ltb bay (items + 4) })
 
 abbrev pub not_now : ℕ → Said
 not_now offset = refused (File (NotNow offset))
