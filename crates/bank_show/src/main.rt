@@ -2,7 +2,6 @@
 #![tactic(auto)]
 
 mod limits;
-mod show;
 mod worked;
 
 use crate::limits::show_limits;

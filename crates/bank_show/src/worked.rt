@@ -1,24 +1,22 @@
 // From the items 1 and 2: bay 5 misses a post, comes back with an old word, and is mended.
-use crate::show::{show_answer, zeros};
-use bank::{Drawer, NotStarted, Watch, run, turn};
+use bank::{Drawer, Watch, run, turn};
 use call::Call;
-use fault::fault::{BookFault, Fault};
-use field::Gf4;
+use field::{BaseField, Field, Gf4};
 use plain_rack::parts::PlainRack;
 use rack::sides::Reading;
 use std::io;
 
 // Counts the looks at the bank.
-#[derive(Drop)]
+#[derive(Default, Drop)]
 struct Looks {
     count: u32,
 }
 
-impl Watch<Gf4, PlainRack> for Looks {
+impl<F: BaseField, R> Watch<F, R> for Looks {
     ghost sees = { λ before drawer rack after. Unit {0} };
 
-    fn look(&mut self, _drawer: &Drawer<Gf4>, _rack: &PlainRack) {
-        self.count = self.count.wrapping_add(1);
+    fn look(&mut self, _drawer: &Drawer<F>, _rack: &R) {
+        self.count = self.count.saturating_add(1);
     }
 }
 
@@ -59,33 +57,27 @@ fn show_mending(
 ) -> io::Result<()> {
     show_bay(rt, &drawer, rack)?;
     let (drawer, answer) = turn(drawer, rack, sheet, Call::Get { item: 1, line: 0 });
-    show_answer(rt, "get 1 0", answer)?;
+    println!(rt; "get 1 0: {answer}")?;
     let (drawer, answer) = turn(drawer, rack, sheet, Call::Mend { bay: 5 });
-    show_answer(rt, "mend 5", answer)?;
+    println!(rt; "mend 5: {answer}")?;
     show_bay(rt, &drawer, rack)
 }
 
 pub(crate) fn show_worked(rt: &HostRuntime) -> anyhow::Result<()> {
-    let Some(mut rack) = zeros(rt.alloc(), 6, 1)? else {
-        return Ok(());
-    };
+    let mut rack = PlainRack::zeros(rt.alloc(), 6, 1)?;
     let mut sheet = [0; 6];
-    let mut looks = Looks { count: 0 };
+    let mut looks = Looks::default();
     match run::<Gf4, PlainRack, Looks>(rt.alloc(), &mut rack, 2, &mut sheet, &MISSED, &mut looks) {
         Ok((drawer, answers)) => {
+            // By hand: calls have no text of their own, only as frames of a round file.
             println!(rt; "post 0 0 1, post 1 0 2, off 5, post 1 0 7, on 5")?;
-            for answer in answers.as_slice() {
-                show_answer(rt, "answer", *answer)?;
+            for answer in &answers {
+                println!(rt; "answer: {answer}")?;
             }
-            let count = looks.count;
-            println!(rt; "{count} looks")?;
+            println!(rt; "{} looks", looks.count)?;
             show_mending(rt, drawer, &mut rack, &mut sheet)?;
         }
-        Err(NotStarted::Memory) => println!(rt; "no memory")?,
-        Err(NotStarted::Refused(fault)) => {
-            let fault = Fault::from(fault);
-            println!(rt; "no {fault}")?;
-        }
+        Err(why) => println!(rt; "{why}")?,
     }
     Ok(())
 }
