@@ -68,20 +68,14 @@ const TABLE: [Vector; 4] = [
 ];
 
 // How many of the lines have these check words.
-fn count_right<F: BaseField>(vectors: &[Vector]) -> u32 {
-    let mut right: u32 = 0;
-    for vector in vectors {
-        let mut checks = [0; 4];
-        let accepted = encode::<F>(&vector.items, &mut checks).is_ok();
-        if accepted && same(&checks, &vector.checks) {
-            right = right.saturating_add(1);
-        }
-    }
-    right
-}
-
-fn same(a: &[u16; 4], b: &[u16; 4]) -> bool {
-    a[0] == b[0] && a[1] == b[1] && a[2] == b[2] && a[3] == b[3]
+fn count_right<F: BaseField>(vectors: &[Vector]) -> usize {
+    vectors
+        .iter()
+        .filter(|vector| {
+            let mut checks = [0; 4];
+            encode::<F>(&vector.items, &mut checks).is_ok() && checks == vector.checks
+        })
+        .count()
 }
 
 pub(crate) fn show_vectors(rt: &HostRuntime) -> anyhow::Result<()> {
