@@ -1,5 +1,5 @@
 -- What a get gives from the restored line, and when it is refused. Assumes nothing.
-use Rattle.std.proofs.Common.{◌≡◌, ℕ, suc, ◌+◌, ◌-◌, ◌<◌, ◌≤◌, Bool, true, false, cond, not, List, get_or, take, Some, None, Option, sym, refl, ap, ◌∙◌, subst, arith, get_or-take}
+use Rattle.std.proofs.Common.{◌≡◌, ℕ, suc, ◌+◌, ◌-◌, ◌<◌, ◌≤◌, Bool, true, false, cond, List, get_or, take, Some, None, Option, sym, refl, ap, ◌∙◌, subst, arith, get_or-take}
 use Rattle.std.proofs.lemmas.Bool.Decides.{nat_tests}
 use Rattle.fault.specs.declared.fault.BookFault.{BookFault}
 use Rattle.field.specs.Structure.{Structure, size}
@@ -11,17 +11,12 @@ use Rattle.rules.specs.Known.{Known, front_of}
 use Rattle.rules.specs.Rules.{why_cell, why_get, gone}
 use Rattle.rules.specs.Effects.{Gives, Got}
 use Rattle.rules.proofs.Refusals.{good}
-use Rattle.book.proofs.Reasons.{get_own, get_by_line}
+use Rattle.book.proofs.Reasons.{get_by_line}
 
 -- A word that is not given is that of an absent bay.
 no_word : (b : Bool) (x : ℕ) → cond b (Some x) None ≡ None → b ≡ false
 no_word false x e = refl
 no_word true x e = absurd (grind arith)
-
--- A word that is given is that of a present bay.
-a_word : (b : Bool) (x y : ℕ) → cond b (Some x) None ≡ Some y → (b ≡ true) × (y ≡ x)
-a_word true x y e = (refl, cc)
-a_word false x y e = absurd (grind arith)
 
 module _ {K : Type 0} (s : Structure K) where
   -- The restored line on a worksheet, by the book's number of items.
@@ -38,15 +33,6 @@ module _ {K : Type 0} (s : Structure K) where
     where
       past_checks : (i : ℕ) → get_or (codeword s items) (i + 4) 0 ≡ get_or items i 0
       past_checks i = let e : i + 4 ≡ suc (suc (suc (suc i))) = omega arith in ap (λ j. get_or (codeword s items) j 0) e
-
-  -- given by the item's own bay
-  pub got_own : (k : Known) (m : Meaning) (room item line : ℕ) (cell : why_cell k (front_of m) room item line ≡ None)
-      (m₁ : Meaning) → m₁ ≡ m → (w : ℕ) → cond (present m₁.switch k.behind (item + 4)) (Some (word_at s m₁ line (item + 4))) None ≡ Some w
-      → (why_get k (front_of m) room item line ≡ None) × Got s k m item line w
-  got_own k m room item line cell m₁ same w given =
-      let (here, is) = a_word (present m.switch k.behind (item + 4)) (word_at s m line (item + 4)) w
-      (subst (λ (x : Meaning). cond (present x.switch k.behind (item + 4)) (Some (word_at s x line (item + 4))) None ≡ Some w) same given) in
-      (get_own k m room line item cell (ap not here), subst (λ b. Gives s b k m item line w) (sym here) is)
 
   module _ (k : Known) (m : Meaning) (room item line : ℕ) (few : k.items ≤ size s) (cell : why_cell k (front_of m) room item line ≡ None)
       (m₁ : Meaning) (e₁ : m₁ ≡ m) (none : cond (present m₁.switch k.behind (item + 4)) (Some (word_at s m₁ line (item + 4))) None ≡ None) where

@@ -1,9 +1,7 @@
-mod Bounds
 mod Getting
 mod Hearing
 mod Marks
 mod Mending
-mod Passing
 mod Posting
 mod Reasons
 mod Revising

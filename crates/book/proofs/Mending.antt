@@ -1,23 +1,18 @@
 -- A bay mended line by line. Assumes nothing.
-use Rattle.std.proofs.Common.{◌≡◌, ℕ, ◌+◌, ◌%◌, ◌<◌, ◌≤◌, Bool, true, false, cond, ◌&&◌, eqb, ltb, ◌⊎◌, List, [], length, get_or, Some, None, Ok, Option, sym, refl, ap, ◌∙◌, subst, subst₂, inl, inr, arith, get_or-take}
+use Rattle.std.proofs.Common.{◌≡◌, ℕ, ◌+◌, ◌%◌, ◌<◌, ◌≤◌, true, false, cond, ◌&&◌, eqb, ltb, ◌⊎◌, List, [], length, get_or, None, sym, refl, ap, ◌∙◌, subst, subst₂, inl, inr, arith, get_or-take}
 use Rattle.std.proofs.lemmas.Bool.{cases_eq}
 use Rattle.std.proofs.lemmas.Bool.Decides.{nat_tests}
-use Rattle.fault.specs.Refusing.{when}
-use Rattle.fault.specs.declared.fault.BookFault.{BookFault}
-use Rattle.fault.specs.declared.fault.BookFault.TheVariants.{TooManyAbsent}
-use Rattle.fault.specs.declared.fault.Fault.TheVariants.{Book}
 use Rattle.field.specs.Structure.{Structure, size}
 use Rattle.codeword.specs.Codeword.{codeword, words}
-use Rattle.rack.specs.Meaning.{Meaning, InRange}
-use Rattle.rack.specs.Calls.{with_bay, write_after, read_answer}
-use Rattle.rack.proofs.Laws.{same_meaning, after_accepted, cell_accepted, read_word}
+use Rattle.rack.specs.Meaning.{Meaning}
+use Rattle.rack.specs.Calls.{with_bay, write_after}
+use Rattle.rack.proofs.Laws.{same_meaning, after_accepted, cell_accepted}
 use Rattle.worksheet.specs.Present.{present, highest}
 use Rattle.worksheet.specs.Lines.{OnSheet, why_unrestored}
 use Rattle.rules.specs.Known.{Known, front_of, put, with_behind}
-use Rattle.rules.specs.Rules.{why_mend, why_seat, other_rack, how_many_gone}
+use Rattle.rules.specs.Rules.{how_many_gone}
 use Rattle.rules.specs.Effects.{Restored, Mended}
 use Rattle.book.specs.Mending.{Ready}
-use Rattle.rules.proofs.Refusals.{own_rack}
 use Rattle.book.proofs.Reasons.{unrestored, too_many}
 use Rattle.book.proofs.Getting.{sheet_line}
 
@@ -31,23 +26,6 @@ with_first m bay n w = record {
 }
 
 module _ (k : Known) (m : Meaning) (bay room : ℕ) where
-  seat_none : why_seat k (front_of m) ≡ None → other_rack k (front_of m) ≡ false
-  seat_none e = grind (arith, nat_tests)
-
-  pub ready : (m₁ : Meaning) → m₁ ≡ m → why_seat k (front_of m) ≡ None → k.items + 4 ≤ room → bay < k.items + 4 → k.behind bay ≡ true
-      → (w : ℕ) → read_answer m₁ bay 0 ≡ Ok w → InRange m₁ → Ready k m bay room
-  ready m₁ e seat wide inside behind w read ranges =
-      let mine = own_rack k (front_of m) (seat_none seat) in
-      record {
-        bays = mine.0;
-        lines = mine.1;
-        within = omega (arith, mine.0);
-        wide = wide;
-        filled = subst (λ (x : Meaning). 1 ≤ x.lines) e ranges.some_lines;
-        behind = behind;
-        on = subst (λ (x : Meaning). x.switch bay ≡ true) e (read_word m₁ bay 0 w read).2;
-      }
-
   -- the book knows the same, and the rack means the same still
   pub still_ready : (k₁ : Known) → k₁ ≡ k → (m₁ : Meaning) → m₁ ≡ m → Ready k m bay room → Ready k₁ m₁ bay room
   still_ready k₁ e m₁ f ok = subst₂ (λ (x : Known) (y : Meaning). Ready x y bay room) (sym e) (sym f) ok
@@ -146,46 +124,8 @@ module _ {K : Type 0} (s : Structure K) where
             few = inr (few_then (sym why_line ∙ done));
           }
 
-      none_some : {A : Type 0} (f : A) (o : Option A) → Some f ≡ o → o ≡ None → ⊥
-      none_some {A = A} f o e z = let x : ◌≡◌ {A = Option A} (Some f) None = e ∙ z in absurd (grind arith)
-
-      many_not : how_many_gone k (front_of m) ≤ 4 → too_many k (front_of m) ≡ None
-      many_not h = grind (arith, nat_tests)
-
-      -- refused at the first line, before anything has changed
-      first_line : (f : BookFault) → Some f ≡ why_unrestored s m₁ k.behind (length sheet₁) n → n ≡ 0
-      first_line f e = elim so.few [
-        | inl z ↦ z
-        | inr h ↦ absurd (none_some f _ e (why_line ∙ many_not h))
-      ]
-
-      unchanged : n ≡ 0 → m₁ ≡ m
-      unchanged z = so.rack ∙ same_meaning _ _ refl refl (λ b. refl) (λ b l. grind (arith, nat_tests))
-
-      by_line : why_mend k (front_of m) (length sheet) bay ≡ cond (ltb 4 (how_many_gone k (front_of m))) (Some (Book (TooManyAbsent (how_many_gone k (front_of m))))) None
-      by_line = let b = ok.bays in let l = ok.lines in let w = ok.within in let r = ok.wide in let o = ok.on in grind (arith, nat_tests)
-
-      carried : (b : Bool) (x f : BookFault) → Some f ≡ when b x → cond b (Some (Book x)) None ≡ Some (Book f)
-      carried true x f e = let y : x ≡ f = cc in ap (λ z. Some (Book z)) y
-      carried false x f e = absurd (grind arith)
-
-      pub mend_refused : (f : BookFault) → Some f ≡ why_unrestored s m₁ k.behind (length sheet₁) n
-          → (Some (Book f) ≡ why_mend k (front_of m) (length sheet) bay) × (m₁ ≡ m) × (sheet₁ ≡ sheet)
-      mend_refused f e =
-          let z = first_line f e in
-          (sym (by_line ∙ carried _ _ f (e ∙ why_line)), unchanged z, so.fresh z)
-
     -- all lines are mended
     module _ (sheet sheet₁ : List ℕ) (m₁ : Meaning) (so : Mending k m bay sheet m.lines m₁ sheet₁) (ok : Ready k m bay (length sheet)) where
-      few_gone : how_many_gone k (front_of m) ≤ 4
-      few_gone = elim so.few [
-        | inl z ↦ absurd (omega (arith, ok.filled))
-        | inr h ↦ h
-      ]
-
-      pub may_mend : why_mend k (front_of m) (length sheet) bay ≡ None
-      may_mend = let few = few_gone in let b = ok.bays in let l = ok.lines in let w = ok.within in let r = ok.wide in let o = ok.on in grind (arith, nat_tests)
-
       cell_all : (w : ℕ → ℕ) (b : ℕ) → m.switch b ≡ (with_bay m bay w).switch b
       cell_all w b = elim (cases_eq b bay) [
         | inl e ↦ let here : m.switch b ≡ true = ap m.switch e ∙ ok.on in grind (arith, nat_tests)

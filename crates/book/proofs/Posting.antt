@@ -1,28 +1,14 @@
 -- A post, from the restored line to the words that were sent. Assumes nothing.
-use Rattle.std.proofs.Common.{◌≡◌, ℕ, ◌+◌, ◌-◌, ◌<◌, ◌≤◌, List, get_or, take, set, None, sym, ap, ◌∙◌, subst, arith}
-use Rattle.field.specs.Structure.{Structure, size}
-use Rattle.codeword.specs.Codeword.{words, codeword}
+use Rattle.std.proofs.Common.{◌≡◌, ℕ, ◌+◌, ◌-◌, ◌<◌, List, get_or, take, set, ap, subst, arith}
+use Rattle.field.specs.Structure.{Structure}
+use Rattle.codeword.specs.Codeword.{codeword}
 use Rattle.rack.specs.Meaning.{Meaning}
 use Rattle.worksheet.specs.Present.{present}
-use Rattle.worksheet.specs.Lines.{word_at, why_unrestored, RestoredLine, OnSheet}
-use Rattle.rules.specs.Known.{Known, front_of}
-use Rattle.rules.specs.Rules.{why_cell, why_post}
+use Rattle.worksheet.specs.Lines.{word_at, RestoredLine, OnSheet}
+use Rattle.rules.specs.Known.{Known}
 use Rattle.rules.specs.Effects.{concerned, Restored, Posted}
 use Rattle.book.specs.Sending.{Sent, Revised}
-use Rattle.rules.proofs.Refusals.{Good}
-use Rattle.book.proofs.Reasons.{post_by_line}
 use Rattle.book.proofs.Sending.{posted}
-
--- The rack has the item's own bay and the line still.
-pub room_to_send : (k : Known) (m : Meaning) (room item line : ℕ) → Good k (front_of m) room item line → (left : Meaning) → left ≡ m → (item + 4 < left.bays) × (line < left.lines)
-room_to_send k m room item line ok left kept =
-    (omega (arith, ap (λ (x : Meaning). x.bays) kept, ok.bays, ok.item_below), omega (arith, ap (λ (x : Meaning). x.lines) kept, ok.lines, ok.line_below))
-
--- A post whose numbers are good is refused as its line is.
-pub why_posted : {K : Type 0} (s : Structure K) (k : Known) (m : Meaning) (room item line word : ℕ) → 1 ≤ k.items → k.items ≤ size s → why_cell k (front_of m) room item line ≡ None
-    → word < words s → (asked : Meaning) → asked ≡ m → why_unrestored s asked k.behind room line ≡ why_post (words s) k (front_of m) room item line word
-why_posted s k m room item line word some few cell small asked same =
-    ap (λ x. why_unrestored s x k.behind room line) same ∙ sym (post_by_line s k m room line some few item cell word small)
 
 -- The line of a rack was restored, and the rack meant the same when it was asked.
 module _ {K : Type 0} (s : Structure K) (k : Known) (m : Meaning) (line : ℕ) (before sheet : List ℕ) (bays : m.bays ≡ k.items + 4)

@@ -1,7 +1,7 @@
 -- An item of a line that is set on the worksheet, and the check words with it. Assumes nothing.
-use Rattle.std.proofs.Common.{◌≡◌, ℕ, suc, ◌+◌, ◌-◌, ◌<◌, ◌≤◌, cond, List, [], ◌∷◌, ◌++◌, length, get_or, take, drop, set, is_ok, Ok, sym, refl, ap, ◌∙◌, subst, inl, inr, arith, length-append, length-set, get_or-set_other, get_or-set_same, lt-ltb, le-leb}
+use Rattle.std.proofs.Common.{◌≡◌, ℕ, suc, ◌+◌, ◌-◌, ◌<◌, ◌≤◌, cond, List, [], ◌∷◌, ◌++◌, length, get_or, take, drop, set, is_ok, Ok, sym, refl, ap, ◌∙◌, subst, inl, inr, arith, length-set, get_or-set_other, get_or-set_same, lt-ltb, le-leb}
 use lib.Seq.{take-set-lt}
-use Rattle.std.proofs.lemmas.List.{drop-take, drop-set-add, take-append-drop}
+use Rattle.std.proofs.lemmas.List.{drop-take, drop-set-add}
 use Rattle.std.proofs.lemmas.Bool.{cases_eq}
 use Rattle.field.specs.Structure.{Structure, size}
 use Rattle.codeword.specs.Codeword.{words, check_word, codeword, Line}
@@ -11,14 +11,6 @@ use Rattle.book.specs.Sending.{Revised}
 -- The four places that the check words are made in.
 abbrev blank : List ℕ
 blank = 0 ∷ 0 ∷ 0 ∷ 0 ∷ []
-
--- Four words over the first four of a list leave it as long.
-pub as_long : (copied xs : List ℕ) → length copied ≡ length (take 4 xs) → length (copied ++ drop 4 xs) ≡ length xs
-as_long copied xs e =
-    length-append copied (drop 4 xs)
-    ∙ ap (λ k. k + length (drop 4 xs)) e
-    ∙ sym (length-append (take 4 xs) (drop 4 xs))
-    ∙ ap length (take-append-drop 4 xs)
 
 -- The worksheet with the item's word.
 abbrev written : List ℕ → ℕ → ℕ → List ℕ

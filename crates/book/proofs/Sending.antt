@@ -13,12 +13,6 @@ use Rattle.book.specs.Sending.{Sent}
 use Rattle.rules.proofs.Knowing.{same_known}
 
 module _ (k : Known) (m : Meaning) (line : ℕ) (w : ℕ → ℕ) where
-  pub sent_none : (test : ℕ → Bool) → ((b : ℕ) → test b ≡ false) → Sent k m test line w k m
-  sent_none test none = record {
-    rack = same_meaning _ _ refl refl (λ b. refl) (λ b l. let e = none b in grind (arith, nat_tests));
-    book = same_known _ _ refl refl (λ b. let e = none b in grind (arith, nat_tests));
-  }
-
   -- the same test, bay by bay
   pub sent_same : (test other : ℕ → Bool) → ((b : ℕ) → test b ≡ other b) → (k' : Known) (m' : Meaning) → Sent k m test line w k' m' → Sent k m other line w k' m'
   sent_same test other same k' m' sent = subst (λ (t : ℕ → Bool). Sent k m t line w k' m') (λ i b. same b i) sent
@@ -57,10 +51,6 @@ module _ (k : Known) (m : Meaning) (line : ℕ) (w : ℕ → ℕ) where
       → (k₂ : Known) (m₂ : Meaning) → Sent k₁ m₁ (λ b. eqb b (item + 4)) line (λ _. w (item + 4)) k₂ m₂ → Sent k m (concerned item) line w k₂ m₂
   sent_all item bay four k₁ m₁ so k₂ m₂ own =
       sent_same (λ b. ltb b bay || eqb b (item + 4)) (concerned item) (λ b. grind (arith, nat_tests)) k₂ m₂ (sent_more (λ b. ltb b bay) (item + 4) k₁ m₁ so k₂ m₂ own)
-
-  -- the rack is as large still
-  pub as_large : (test : ℕ → Bool) (k₁ : Known) (m₁ : Meaning) → Sent k m test line w k₁ m₁ → (m₁.bays ≡ m.bays) × (m₁.lines ≡ m.lines)
-  as_large test k₁ m₁ sent = (ap (λ (x : Meaning). x.bays) sent.rack, ap (λ (x : Meaning). x.lines) sent.rack)
 
 -- What a post leaves: the words of the line with its new item, where they are on the worksheet.
 module _ {K : Type 0} (s : Structure K) (k : Known) (m : Meaning) (item line word : ℕ) (less : item < k.items) (items sheet : List ℕ)
