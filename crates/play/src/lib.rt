@@ -11,7 +11,7 @@ ghost use Rattle.play.specs.Played.{PlayedOn, Begun, Played};
 use bank::{Drawer, Watch};
 use extension::Gf16;
 use fault::fault::{Fault, FileFault};
-use field::Gf4;
+use field::{BaseField, Gf4};
 use replies::{Reply, add_line};
 use round::rounds::{Placed, Round};
 use round::tasks::{Phase, Task, not_now, task_of};
@@ -23,7 +23,7 @@ use table_field::Table256;
 #[derive(Clone, Copy)]
 struct Nobody;
 
-impl<F> Watch<F, Hall> for Nobody {
+impl<F: BaseField> Watch<F, Hall> for Nobody {
     ghost sees = { λ _ _ _ _. Unit {0} };
 
     fn look(&mut self, _drawer: &Drawer<F>, _rack: &Hall) {}

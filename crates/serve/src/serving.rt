@@ -93,7 +93,7 @@ fn answer_frame<'a, F: BaseField, R: Serving>(
     placed: Placed<'a>,
 ) -> (Drawer<F>, Reply<'a>)
     requires { length sheet.old ≡ room }
-    ensures { Answered F.Field.structure (known_of F.Field.structure) open_bay R.Reading.meaning placed.entry.offset (told placed.entry.answer) drawer rack.old (said result.1) result.0 rack.new }
+    ensures { Answered F.Field.structure known_of open_bay R.Reading.meaning placed.entry.offset (told placed.entry.answer) drawer rack.old (said result.1) result.0 rack.new }
 {
     match task_of(phase(&drawer), placed) {
         Task::Call(call) => {
@@ -128,7 +128,7 @@ fn serve_rest<F: BaseField, R: Serving, W: Watch<F, R>>(
     round: &mut Round<'_>,
     text: &mut String,
 ) -> Result<(), AllocError>
-    ensures { OnOk result (Serves F.Field.structure (known_of F.Field.structure) open_bay R.Reading.meaning W.Watch.sees drawer rack.old watch.old round.old (string_bytes text.old) (string_bytes text.new) watch.new) }
+    ensures { OnOk result (Serves F.Field.structure known_of open_bay R.Reading.meaning W.Watch.sees drawer rack.old watch.old round.old (string_bytes text.old) (string_bytes text.new) watch.new) }
 {
     let mut drawer = drawer;
     let mut sheet = [0; ROOM];
@@ -151,7 +151,7 @@ pub fn serve<F: BaseField, W: Watch<F, Hall>>(
     text: &mut String,
     watch: &mut W,
 ) -> Result<(), NotServed>
-    ensures { MatchResult result (λ _. (why_hall (size F.Field.structure) items lines ≡ None) × Served F.Field.structure (known_of F.Field.structure) open_bay hall_meaning W.Watch.sees (first_ledger (size F.Field.structure) items lines) round.old (string_bytes text.old ++ line_of number done) (string_bytes text.new) watch.old watch.new) (Unserved (why_hall (size F.Field.structure) items lines) ((round.new ≡ round.old) × (text.new ≡ text.old) × (watch.new ≡ watch.old))) }
+    ensures { MatchResult result (λ _. (why_hall (size F.Field.structure) items lines ≡ None) × Served F.Field.structure known_of open_bay hall_meaning W.Watch.sees (first_ledger (size F.Field.structure) items lines) round.old (string_bytes text.old ++ line_of number done) (string_bytes text.new) watch.old watch.new) (Unserved (why_hall (size F.Field.structure) items lines) ((round.new ≡ round.old) × (text.new ≡ text.old) × (watch.new ≡ watch.old))) }
 {
     let items = items as usize;
     if items == 0 || items > F::order() as usize {

@@ -26,15 +26,15 @@ returns g c =
     let some : 1 ≤ items = omega (arith, c.if-items-eq0.false) in
     let few : items ≤ size s = omega (arith, c.if-items-order.false, c.order.ensures) in
     let new = c.in_ok-hall.ensures.1 in
-    let then = c.in_ok-start.ensures.then in
+    let then = c.in_ok-start.ensures in
     let m = hall_meaning c.in_ok-hall.hall in
     let m' = hall_meaning c.start.new.rack in
-    let k = knows s c.in_ok-start.field-0 in
+    let k = knows c.in_ok-start.field-0 in
     let l = first_ledger (size s) items lines in
-    let sound = opening_sound s items lines some few m m' k new then.0 then.1 in
-    let stands = opening_stands s items lines some few m m' k new then.0 then.1 in
+    let sound = opening_sound s items lines some few m m' k new then.book then.rack in
+    let stands = opening_stands s items lines some few m m' k new then.book then.rack in
     let text = c.in_ok-add_line.ensures ∙ ap (λ (x : Said). string_bytes c.args.text.now ++ line c.args.number x) c.accepted.ensures in (
       hall_none (size s) items lines some few c.in_ok-hall.ensures.0,
-      subst (λ (t : List ℕ). Served s (known_of s) open_bay hall_meaning g.W.Watch.sees l c.args.round.now t (string_bytes c.serve_rest.new.text) c.args.watch.now c.serve_rest.new.watch) text
+      subst (λ (t : List ℕ). Served s known_of open_bay hall_meaning g.W.Watch.sees l c.args.round.now t (string_bytes c.serve_rest.new.text) c.args.watch.now c.serve_rest.new.watch) text
           (c.in_ok-serve_rest.ensures l c.args.watch.now sound (λ i j. refl) stands c.look.ensures),
     )

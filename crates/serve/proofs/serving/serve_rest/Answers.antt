@@ -7,7 +7,7 @@ use Rattle.serve.proofs.serving.serve_rest.Goals as goal
 pub loop-placed-init : goal.loop-placed-init
 loop-placed-init g c =
     let s = g.F.Field.structure in
-    (refl, λ k w₀ sound new st look. going_none s (known_of s) open_bay g.R.Reading.meaning g.W.Watch.sees k sound new _ _ w₀ _ _ _ st look)
+    (refl, λ k w₀ sound new st look. going_none s known_of open_bay g.R.Reading.meaning g.W.Watch.sees k sound new _ _ w₀ _ _ _ st look)
 
 pub loop-placed-preserved : goal.loop-placed-preserved
 loop-placed-preserved g c =
@@ -15,11 +15,11 @@ loop-placed-preserved g c =
     let next = c.answer_frame-next in (
       next.auto.sheet ∙ c.loop-placed.invariant.0,
       λ k w₀ sound new st look.
-          going_more s (known_of s) open_bay g.R.Reading.meaning g.W.Watch.sees k sound new c.args.round.now (string_bytes c.args.text.now) w₀ (c.loop-placed.invariant.1 k w₀ sound new st look)
+          going_more s known_of open_bay g.R.Reading.meaning g.W.Watch.sees k sound new c.args.round.now (string_bytes c.args.text.now) w₀ (c.loop-placed.invariant.1 k w₀ sound new st look)
           c.read.new.self c.in-Some.placed c.in-Some.ensures next.result.0 next.new.rack c.show_call.new.watch (said next.result.1) (string_bytes c.add_line.new.text) c.in_ok-add_line.ensures next.ensures c.show_call.ensures,
     )
 
 pub returns : goal.returns
 returns g c l w₀ sound new st look =
     let s = g.F.Field.structure in
-    going_end s (known_of s) open_bay g.R.Reading.meaning g.W.Watch.sees l sound new c.args.round.now (string_bytes c.args.text.now) w₀ (c.loop-placed.invariant.1 l w₀ sound new st look) c.in_default.ensures
+    going_end s known_of open_bay g.R.Reading.meaning g.W.Watch.sees l sound new c.args.round.now (string_bytes c.args.text.now) w₀ (c.loop-placed.invariant.1 l w₀ sound new st look) c.in_default.ensures

@@ -14,8 +14,8 @@ invariant-loop-placed g l =
     let sees = g.W.Watch.sees in
     (length l.sheet ≡ 260)
     × ((k : Ledger) (w₀ : g.row.W.Denot) (sound : Sound s k) (new : (item line : ℕ) → k.count item line ≡ 0)
-    → Stands s k (known_of s l.initial.drawer) (open_bay l.initial.drawer) (meaning l.initial.rack) → sees w₀ l.initial.drawer l.initial.rack l.initial.watch
-    → Going s (known_of s) open_bay meaning sees k sound new l.initial.round (string_bytes l.initial.text) w₀ l.drawer l.rack l.watch l.round (string_bytes l.text))
+    → Stands s k (known_of l.initial.drawer) (open_bay l.initial.drawer) (meaning l.initial.rack) → sees w₀ l.initial.drawer l.initial.rack l.initial.watch
+    → Going s known_of open_bay meaning sees k sound new l.initial.round (string_bytes l.initial.text) w₀ l.drawer l.rack l.watch l.round (string_bytes l.text))
 
 abbrev pub decreases-loop-placed : goal.decreases-loop-placed
 decreases-loop-placed g l = length (bytes_left l.round.reader)
