@@ -3,7 +3,8 @@ ghost use Rattle.std.specs.Prelude.{◌≡◌};
 ghost use Rattle.std.specs.Option.{option_map};
 ghost use Rattle.frame.specs.Format.{number as pair, content, meant};
 
-use crate::frame::*;
+use crate::frame::{Call, Frame, LONGEST_NOTE};
+use crate::kind::Kind;
 
 // Two bytes of a body, the low one first.
 pub(crate) fn number(low: u8, high: u8) -> u16
@@ -16,36 +17,38 @@ pub(crate) fn number(low: u8, high: u8) -> u16
 pub(crate) fn decode<'a>(kind: u16, body: &'a [u8]) -> Option<Frame<'a>>
     ensures { option_map content result ≡ meant kind body.now }
 {
-    match (kind, body) {
-        (START, [a, b, c, d, e, f]) => Some(Frame::Start {
+    let Ok(known) = Kind::try_from(kind) else {
+        return Some(Frame::Unknown { kind, body });
+    };
+    match (known, body) {
+        (Kind::Start, [a, b, c, d, e, f]) => Some(Frame::Start {
             items: number(*a, *b),
             lines: number(*c, *d),
             field: number(*e, *f),
         }),
-        (POST, [a, b, c, d, e, f]) => Some(Frame::Call(Call::Post {
+        (Kind::Post, [a, b, c, d, e, f]) => Some(Frame::Call(Call::Post {
             item: number(*a, *b),
             line: number(*c, *d),
             word: number(*e, *f),
         })),
-        (GET, [a, b, c, d]) => Some(Frame::Call(Call::Get {
+        (Kind::Get, [a, b, c, d]) => Some(Frame::Call(Call::Get {
             item: number(*a, *b),
             line: number(*c, *d),
         })),
-        (OFF, [a, b]) => Some(Frame::Call(Call::Off {
+        (Kind::Off, [a, b]) => Some(Frame::Call(Call::Off {
             bay: number(*a, *b),
         })),
-        (ON, [a, b]) => Some(Frame::Call(Call::On {
+        (Kind::On, [a, b]) => Some(Frame::Call(Call::On {
             bay: number(*a, *b),
         })),
-        (RELEASE, [a, b]) => Some(Frame::Call(Call::Release {
+        (Kind::Release, [a, b]) => Some(Frame::Call(Call::Release {
             bay: number(*a, *b),
         })),
-        (SEAT, []) => Some(Frame::Call(Call::Seat)),
-        (MEND, [a, b]) => Some(Frame::Call(Call::Mend {
+        (Kind::Seat, []) => Some(Frame::Call(Call::Seat)),
+        (Kind::Mend, [a, b]) => Some(Frame::Call(Call::Mend {
             bay: number(*a, *b),
         })),
-        (NOTE, [_, ..]) if body.len() <= LONGEST_NOTE => Some(Frame::Note(body)),
-        (START..=NOTE, _) => None,
-        _ => Some(Frame::Unknown { kind, body }),
+        (Kind::Note, [_, ..]) if body.len() <= LONGEST_NOTE => Some(Frame::Note(body)),
+        _ => None,
     }
 }

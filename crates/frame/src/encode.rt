@@ -1,19 +1,25 @@
 // The bytes of a frame.
-ghost use Rattle.std.specs.Prelude.{◌≡◌, ℕ, ◌<◌, ◌≤◌, true, List, ◌++◌, length, IfOk};
+ghost use Rattle.std.specs.Prelude.{◌≡◌, ◌<◌, ◌++◌, length, IfOk};
 ghost use Rattle.frame.specs.declared.encode.WriteFault.TheVariants.{Memory};
+ghost use Rattle.std.specs.List.{flat_map};
 ghost use Rattle.frame.specs.Format.{two, framed, content, bytes_of, call as said};
+ghost use Rattle.frame.specs.Kinds.{number_of};
 ghost use Rattle.frame.specs.Writing.{Written, ReadsBack};
 
-use crate::frame::*;
+use crate::frame::{Call, Frame, LONGEST_BODY, LONGEST_NOTE};
+use crate::kind::Kind;
 use std::alloc::{AllocError, Global};
+use thiserror::Error;
 
 // Why a frame cannot be written.
-#[derive(Clone, Copy, PartialEq, Eq, Debug)]
+#[derive(Clone, Copy, PartialEq, Eq, Debug, Error)]
 pub enum WriteFault {
     // No file can say it: a note that is empty or longer than 60 bytes, a body of 65,536 bytes or more,
     // or a known kind as an unknown one.
+    #[error("no file can say the frame")]
     Improper,
     // There is no memory for the bytes.
+    #[error("no memory")]
     Memory,
 }
 
@@ -25,46 +31,49 @@ impl From<AllocError> for WriteFault {
     }
 }
 
+// The head of a frame of this kind: the length of the body and the kind, two bytes each.
+fn head(heap: Global, kind: u16, length: usize) -> Result<Vec<u8>, AllocError>
+    requires { length < 65536 }
+    ensures { IfOk result (λ v. v.items ≡ two length ++ two kind) }
+{
+    let [a, b] = (length as u16).to_le_bytes();
+    let [c, d] = kind.to_le_bytes();
+    Vec::from_slice(heap, &[a, b, c, d])
+}
+
 // A frame of this kind around the body.
-fn wrap(heap: Global, kind: u16, body: &[u8]) -> Result<Vec<u8>, AllocError>
+fn around(heap: Global, kind: u16, body: &[u8]) -> Result<Vec<u8>, AllocError>
     requires { length body.now < 65536 }
     ensures { IfOk result (λ v. v.items ≡ framed kind body.now) }
 {
-    let [a, b] = (body.len() as u16).to_le_bytes();
-    let [c, d] = kind.to_le_bytes();
-    let mut frame = Vec::from_slice(heap, &[a, b, c, d])?;
+    let mut frame = head(heap, kind, body.len())?;
     frame.extend_from_slice(body)?;
     Ok(frame)
 }
 
-fn three(x: u16, y: u16, z: u16) -> [u8; 6]
-    ensures { result ≡ two x ++ (two y ++ two z) }
+// A frame of this kind around the numbers.
+fn around_numbers(heap: Global, kind: Kind, numbers: &[u16]) -> Result<Vec<u8>, AllocError>
+    requires { length numbers.now < 32768 }
+    ensures { IfOk result (λ v. v.items ≡ framed (number_of kind) (flat_map two numbers.now)) }
 {
-    let [a, b] = x.to_le_bytes();
-    let [c, d] = y.to_le_bytes();
-    let [e, f] = z.to_le_bytes();
-    [a, b, c, d, e, f]
-}
-
-fn pair(x: u16, y: u16) -> [u8; 4]
-    ensures { result ≡ two x ++ two y }
-{
-    let [a, b] = x.to_le_bytes();
-    let [c, d] = y.to_le_bytes();
-    [a, b, c, d]
+    let mut frame = head(heap, kind.into(), 2 * numbers.len())?;
+    for number in numbers {
+        frame.extend_from_slice(&number.to_le_bytes())?;
+    }
+    Ok(frame)
 }
 
 fn encode_call(heap: Global, call: Call) -> Result<Vec<u8>, AllocError>
     ensures { IfOk result (λ v. v.items ≡ bytes_of (said call)) }
 {
     match call {
-        Call::Post { item, line, word } => wrap(heap, POST, &three(item, line, word)),
-        Call::Get { item, line } => wrap(heap, GET, &pair(item, line)),
-        Call::Off { bay } => wrap(heap, OFF, &bay.to_le_bytes()),
-        Call::On { bay } => wrap(heap, ON, &bay.to_le_bytes()),
-        Call::Release { bay } => wrap(heap, RELEASE, &bay.to_le_bytes()),
-        Call::Seat => wrap(heap, SEAT, &[]),
-        Call::Mend { bay } => wrap(heap, MEND, &bay.to_le_bytes()),
+        Call::Post { item, line, word } => around_numbers(heap, Kind::Post, &[item, line, word]),
+        Call::Get { item, line } => around_numbers(heap, Kind::Get, &[item, line]),
+        Call::Off { bay } => around_numbers(heap, Kind::Off, &[bay]),
+        Call::On { bay } => around_numbers(heap, Kind::On, &[bay]),
+        Call::Release { bay } => around_numbers(heap, Kind::Release, &[bay]),
+        Call::Seat => around_numbers(heap, Kind::Seat, &[]),
+        Call::Mend { bay } => around_numbers(heap, Kind::Mend, &[bay]),
     }
 }
 
@@ -78,14 +87,14 @@ pub fn encode(heap: Global, frame: Frame<'_>) -> Result<Vec<u8>, WriteFault>
             items,
             lines,
             field,
-        } => Ok(wrap(heap, START, &three(items, lines, field))?),
+        } => Ok(around_numbers(heap, Kind::Start, &[items, lines, field])?),
         Frame::Call(call) => Ok(encode_call(heap, call)?),
         Frame::Note(text) if !text.is_empty() && text.len() <= LONGEST_NOTE => {
-            Ok(wrap(heap, NOTE, text)?)
+            Ok(around(heap, Kind::Note.into(), text)?)
         }
         Frame::Unknown { kind, body }
-            if (kind < START || kind > NOTE) && body.len() <= LONGEST_BODY => {
-            Ok(wrap(heap, kind, body)?)
+            if Kind::try_from(kind).is_err() && body.len() <= LONGEST_BODY => {
+            Ok(around(heap, kind, body)?)
         }
         _ => Err(WriteFault::Improper),
     }

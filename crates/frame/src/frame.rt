@@ -1,25 +1,6 @@
 // What the frames of a round file say.
 pub use call::Call;
 
-// The number of each kind of frame. Any other number is an unknown kind.
-pub const START: u16 = 1;
-
-pub const POST: u16 = 2;
-
-pub const GET: u16 = 3;
-
-pub const OFF: u16 = 4;
-
-pub const ON: u16 = 5;
-
-pub const RELEASE: u16 = 6;
-
-pub const SEAT: u16 = 7;
-
-pub const MEND: u16 = 8;
-
-pub const NOTE: u16 = 9;
-
 // The longest text of a note, in bytes.
 pub const LONGEST_NOTE: usize = 60;
 

@@ -4,4 +4,5 @@
 mod decode;
 pub mod encode;
 pub mod frame;
+pub mod kind;
 pub mod reader;

@@ -1,5 +1,5 @@
 // A reader of a round file, at the frame that comes next.
-ghost use Rattle.std.specs.Prelude.{◌≤◌, length};
+ghost use Rattle.std.specs.Prelude.{◌≡◌, ◌≤◌, length};
 
 pub mod next;
 
@@ -9,4 +9,22 @@ pub struct Reader<'a> {
     // Where the next frame begins.
     offset: usize,
     ghost within: { offset ≤ length file.now },
+}
+
+impl<'a> Reader<'a> {
+    ghost use Rattle.frame.specs.Reading.{file_of};
+
+    pub fn new(file: &'a [u8]) -> Reader<'a>
+        ensures file { file_of result ≡ file.now }
+        ensures start { result.offset ≡ 0 }
+    {
+        Reader { file, offset: 0 }
+    }
+
+    // Where the next frame begins.
+    pub fn offset(&self) -> usize
+        ensures { result ≡ self.now.offset }
+    {
+        self.offset
+    }
 }

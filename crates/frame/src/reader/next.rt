@@ -2,7 +2,7 @@
 ghost use Rattle.std.specs.Prelude.{◌≡◌, length};
 ghost use Rattle.std.specs.Option.{option_map};
 ghost use Rattle.frame.specs.Format.{front};
-ghost use Rattle.frame.specs.Reading.{raw, Steps, file_of, bytes_left};
+ghost use Rattle.frame.specs.Reading.{raw, Steps, bytes_left};
 ghost use Rattle.std.specs.Iterator.{at_most};
 
 use crate::decode::{decode, number};
@@ -28,30 +28,11 @@ fn split_front<'a>(bytes: &'a [u8]) -> Option<RawFrame<'a>>
         return None;
     };
     let length = usize::from(number(*a, *b));
-    if more.len() < length {
-        return None;
-    }
-    let kind = number(*c, *d);
+    let body = more.get(..length)?;
     Some(RawFrame {
-        kind,
-        body: &more[0..length],
+        kind: number(*c, *d),
+        body,
     })
-}
-
-impl<'a> Reader<'a> {
-    pub fn new(file: &'a [u8]) -> Reader<'a>
-        ensures file { file_of result ≡ file.now }
-        ensures start { result.offset ≡ 0 }
-    {
-        Reader { file, offset: 0 }
-    }
-
-    // Where the next frame begins.
-    pub fn offset(&self) -> usize
-        ensures { result ≡ self.now.offset }
-    {
-        self.offset
-    }
 }
 
 // The answer to each frame. A frame that is cut short is the last.
