@@ -1,6 +1,6 @@
 -- What is written is read back, and what is read was laid end to end. Assumes nothing.
-use Rattle.std.proofs.Common.{◌≡◌, ℕ, ◌+◌, ◌/◌, ◌%◌, ◌<◌, ◌≤◌, true, leb, List, [], ◌∷◌, ◌++◌, length, get_or, take, drop, Some, None, Ok, Err, Option, Result, sym, refl, ap, ◌∙◌, subst, subst₂, append_assoc, append-nil, arith, length-append, length-drop, take-append-drop, length-take-le, get_or-drop, leb-true}
-use Rattle.std.proofs.lemmas.List.{take_at, drop_at, drop-drop, length_push}
+use Rattle.std.proofs.Common.{◌≡◌, ℕ, ◌+◌, ◌/◌, ◌%◌, ◌<◌, true, leb, List, [], ◌∷◌, ◌++◌, length, get_or, take, drop, Some, None, Ok, Err, Option, Result, sym, refl, ap, ◌∙◌, subst, subst₂, append_assoc, append-nil, arith, length-append, length-drop, take-append-drop, length-take-le, get_or-drop, leb-true}
+use Rattle.std.proofs.lemmas.List.{take_at, drop_at, drop-drop}
 use Rattle.std.proofs.lemmas.Bool.Decides.{nat_tests}
 use Rattle.std.specs.Option.{ok_or, option_map}
 use Rattle.fault.specs.declared.fault.FileFault.{FileFault}
@@ -9,7 +9,7 @@ use Rattle.call.specs.declared.Call.TheVariants.{Post, Get, Off, On, Release, Se
 use Rattle.frame.specs.declared.frame.Frame.{Frame}
 use Rattle.frame.specs.declared.reader.Reader.{Reader}
 use Rattle.frame.specs.Format.{Content, start, call, note, unknown, Whole, number, two, front, framed, size, meant, kind_of, body_of, bytes_of, proper}
-use Rattle.frame.specs.Reading.{Answer, Step, step, taken, told, Steps, file_of, bytes_left}
+use Rattle.frame.specs.Reading.{Answer, Step, step, taken, told, Steps, file_of}
 use Rattle.frame.specs.Laid.{Cut, Laid, ended, cut, frame, Answered}
 use Rattle.frame.specs.Writing.{ReadsBack}
 use Rattle.frame.proofs.Fronts.{chosen, front_is, front_fits, step_whole}
@@ -158,42 +158,32 @@ step_ended offset (x ∷ bytes) rest e = absurd (answers_some offset (x ∷ byte
 pub record Sofar (file : List ℕ) (seen : List Answer) (s : Reader) : Type 0 where
   pub here : file_of s ≡ file
   pub front : (more : List Answer) → Laid s.offset (drop s.offset file) more → Laid 0 file (seen ++ more)
-  pub few : length seen + length (bytes_left s) ≤ length file
 
 pub sofar_none : (file : List ℕ) (s : Reader) → file_of s ≡ file → s.offset ≡ 0 → Sofar file [] s
 sofar_none file s here zeroth =
     let all : drop s.offset file ≡ file = ap (λ k. drop k file) zeroth in
-    record {
-      here = here;
-      front = λ more l. subst₂ (λ k bytes. Laid k bytes more) zeroth all l;
-      few = omega (arith, ap length (ap (drop s.offset) here ∙ all));
-    }
+    record { here = here; front = λ more l. subst₂ (λ k bytes. Laid k bytes more) zeroth all l }
 
-module _ {file : List ℕ} {seen : List Answer} {s : Reader} (t : Reader) (r : Option (Result Frame FileFault)) (sofar : Sofar file seen s) (one : Steps s r t) where
-  here_after : file_of t ≡ file
-  here_after = one.0 ∙ sofar.here
-
-  step_here : record { answer = option_map told r; rest = drop t.offset file } ≡ step s.offset (drop s.offset file)
-  step_here =
-      sym (ap (λ f. record { answer = option_map told r; rest = drop t.offset f }) here_after)
+module _ {file : List ℕ} {seen : List Answer} {s : Reader} (t : Reader) (sofar : Sofar file seen s) where
+  step_here : (r : Option (Result Frame FileFault)) → Steps s r t → record { answer = option_map told r; rest = drop t.offset file } ≡ step s.offset (drop s.offset file)
+  step_here r one =
+      sym (ap (λ f. record { answer = option_map told r; rest = drop t.offset f }) (one.0 ∙ sofar.here))
       ∙ one.1 ∙ ap (λ f. step s.offset (drop s.offset f)) sofar.here
 
-  pub sofar_more : Bytes file → length (bytes_left t) < length (bytes_left s) → (a : Result Frame FileFault) → r ≡ Some a → Sofar file (seen ++ (told a ∷ [])) t
-  sofar_more small less a is =
+  pub sofar_more : Bytes file → (a : Result Frame FileFault) → Steps s (Some a) t → Sofar file (seen ++ (told a ∷ [])) t
+  sofar_more small a one =
       let bytes = drop s.offset file in
       let rest = drop t.offset file in
+      let here : file_of t ≡ file = one.0 ∙ sofar.here in
       let below : Bytes bytes = λ i. subst (λ n. n < 256) (sym (get_or-drop s.offset file i 0)) (small (s.offset + i)) in
       let place : t.offset + length rest ≡ s.offset + length bytes =
-      omega (arith, length-drop t.offset file, length-drop s.offset file, ap length sofar.here, ap length here_after, s.within, t.within) in
-      let said = subst (λ o. record { answer = option_map told o; rest = rest } ≡ step s.offset bytes) is step_here in
+      omega (arith, length-drop t.offset file, length-drop s.offset file, ap length sofar.here, ap length here, s.within, t.within) in
       record {
-        here = here_after;
-        front = λ more l. rw append_assoc (sofar.front (told a ∷ more) (step_laid s.offset t.offset bytes rest (told a) below place said more l));
-        few = omega (arith, sofar.few, less, length_push seen (told a));
+        here = here;
+        front = λ more l. rw append_assoc (sofar.front (told a ∷ more) (step_laid s.offset t.offset bytes rest (told a) below place (step_here (Some a) one) more l));
       }
 
-  pub sofar_end : r ≡ None → Answered file seen
-  sofar_end is =
-      let said = subst (λ o. record { answer = option_map told o; rest = drop t.offset file } ≡ step s.offset (drop s.offset file)) is step_here in
-      let laid = rw append-nil at (sofar.front [] (ended (step_ended s.offset (drop s.offset file) _ said))) in
+  pub sofar_end : Steps s None t → Answered file seen
+  sofar_end one =
+      let laid = rw append-nil at (sofar.front [] (ended (step_ended s.offset (drop s.offset file) _ (step_here None one)))) in
       record { laid = laid; only = λ others l. laid_same laid l }

@@ -11,6 +11,7 @@ use frame::frame::Frame;
 use frame::reader::Reader;
 use std::alloc::{AllocError, Global};
 use std::fmt;
+use std::fmt::Write;
 
 pub mod text;
 
@@ -27,14 +28,8 @@ impl fmt::Display for Line<'_> {
     fn fmt<W: fmt::Write>(&self, f: &mut fmt::Formatter<W>) -> fmt::Result {
         let number = self.number;
         match self.answer {
-            Ok(frame) => {
-                let frame = FrameText(frame);
-                write!(f, "{number} {frame}")
-            }
-            Err(fault) => {
-                let fault = Fault::from(fault);
-                write!(f, "{number} no {fault}")
-            }
+            Ok(frame) => write!(f, "{number} {}", FrameText(frame)),
+            Err(fault) => write!(f, "{number} no {}", Fault::from(fault)),
         }
     }
 }
@@ -44,11 +39,8 @@ pub fn list(heap: Global, file: &[u8]) -> Result<String, AllocError>
     ensures { IfOk result (λ text. Listed file.now (string_bytes text)) }
 {
     let mut text = String::new(heap);
-    let mut number = 0;
-    for answer in Reader::new(file) {
-        let line = format!(in heap; "{}\n", Line { number, answer })?;
-        text.push_str(line.as_str())?;
-        number += 1;
+    for (number, answer) in Reader::new(file).enumerate() {
+        writeln!(text, "{}", Line { number, answer })?;
     }
     Ok(text)
 }

@@ -64,18 +64,9 @@ impl fmt::Display for FrameText<'_> {
                 lines,
                 field,
             } => write!(f, "start {items} {lines} {field}"),
-            Frame::Call(call) => {
-                let call = CallText(call);
-                write!(f, "{call}")
-            }
-            Frame::Note(text) => {
-                let text = Printable(text);
-                write!(f, "note {text}")
-            }
-            Frame::Unknown { kind: _, body } => {
-                let length = body.len();
-                write!(f, "skip {length}")
-            }
+            Frame::Call(call) => write!(f, "{}", CallText(call)),
+            Frame::Note(text) => write!(f, "note {}", Printable(text)),
+            Frame::Unknown { body, .. } => write!(f, "skip {}", body.len()),
         }
     }
 }
