@@ -4,12 +4,13 @@
 use fault::fault::FileFault;
 use frame::encode::{WriteFault, encode};
 use frame::frame::{Call, Frame};
+use frame::kind::Kind;
 use frame::reader::Reader;
 use std::alloc::{AllocError, Global};
 use std::fmt;
 
 // How many frames of each sort came.
-#[derive(Clone, Copy)]
+#[derive(Clone, Copy, Default)]
 struct Tally {
     calls: u32,
     notes: u32,
@@ -19,26 +20,16 @@ struct Tally {
 }
 
 impl Tally {
-    fn new() -> Tally {
-        Tally {
-            calls: 0,
-            notes: 0,
-            unknown: 0,
-            wrong: 0,
-            cut: 0,
-        }
-    }
-
     fn add(&mut self, file: &[u8]) {
         for answer in Reader::new(file) {
-            match answer {
-                Ok(Frame::Start { .. }) => self.calls = self.calls.saturating_add(1),
-                Ok(Frame::Call(_)) => self.calls = self.calls.saturating_add(1),
-                Ok(Frame::Note(_)) => self.notes = self.notes.saturating_add(1),
-                Ok(Frame::Unknown { .. }) => self.unknown = self.unknown.saturating_add(1),
-                Err(FileFault::CutShort(_)) => self.cut = self.cut.saturating_add(1),
-                Err(_) => self.wrong = self.wrong.saturating_add(1),
-            }
+            let count = match answer {
+                Ok(Frame::Start { .. } | Frame::Call(_)) => &mut self.calls,
+                Ok(Frame::Note(_)) => &mut self.notes,
+                Ok(Frame::Unknown { .. }) => &mut self.unknown,
+                Err(FileFault::CutShort(_)) => &mut self.cut,
+                Err(_) => &mut self.wrong,
+            };
+            *count = count.saturating_add(1);
         }
     }
 }
@@ -59,28 +50,25 @@ impl fmt::Display for Tally {
     }
 }
 
-// Each kind, with a body of so many zeros.
+// Each number of a kind, with a body of so many zeros.
 fn kinds(body: u8) -> Tally {
-    let mut tally = Tally::new();
+    let mut tally = Tally::default();
     for kind in 0..=u16::MAX {
         let [low, high] = kind.to_le_bytes();
         let file = [body, 0, low, high, 0, 0, 0, 0, 0, 0];
-        let end = 4 + usize::from(body.min(6));
-        tally.add(&file[0..end]);
+        tally.add(&file[..4 + usize::from(body.min(6))]);
     }
     tally
 }
 
-// Each length of body, for one kind.
-fn lengths(heap: Global, kind: u8) -> Result<Tally, AllocError> {
-    let mut tally = Tally::new();
+// Each length of body, for one number of a kind.
+fn lengths(heap: Global, kind: u16) -> Result<Tally, AllocError> {
+    let mut tally = Tally::default();
     let mut file = vec![in heap; 0u8; 65_539]?;
-    file[2] = kind;
+    [file[2], file[3]] = kind.to_le_bytes();
     for length in 0..=u16::MAX {
-        let [low, high] = length.to_le_bytes();
-        file[0] = low;
-        file[1] = high;
-        tally.add(&file.as_slice()[0..4 + usize::from(length)]);
+        [file[0], file[1]] = length.to_le_bytes();
+        tally.add(&file[..4 + usize::from(length)]);
     }
     Ok(tally)
 }
@@ -115,32 +103,32 @@ fn sample(heap: Global) -> Result<Vec<u8>, WriteFault> {
 
 // A file of six frames, cut after each of its bytes in turn.
 fn cuts(heap: Global) -> Result<Tally, WriteFault> {
-    let mut tally = Tally::new();
+    let mut tally = Tally::default();
     let file = sample(heap)?;
     for end in 0..=file.len() {
-        tally.add(&file.as_slice()[0..end]);
+        tally.add(&file[..end]);
     }
     Ok(tally)
 }
 
-fn run(rt: &HostRuntime) -> anyhow::Result<()> {
-    let empty = kinds(0);
-    println!(rt; "each kind, no body: {empty}")?;
-    let six = kinds(6);
-    println!(rt; "each kind, six bytes of body: {six}")?;
-    let posts = lengths(rt.alloc(), 2)?;
-    println!(rt; "post with each length of body: {posts}")?;
-    let notes = lengths(rt.alloc(), 9)?;
-    println!(rt; "note with each length of body: {notes}")?;
-    let others = lengths(rt.alloc(), 10)?;
-    println!(rt; "kind 10 with each length of body: {others}")?;
+fn main(rt: HostRuntime) -> anyhow::Result<()> {
+    println!(rt; "each kind, no body: {}", kinds(0))?;
+    println!(rt; "each kind, six bytes of body: {}", kinds(6))?;
+    println!(rt;
+        "post with each length of body: {}",
+        lengths(rt.alloc(), Kind::Post.into())?
+    )?;
+    println!(rt;
+        "note with each length of body: {}",
+        lengths(rt.alloc(), Kind::Note.into())?
+    )?;
+    println!(rt;
+        "kind 10 with each length of body: {}",
+        lengths(rt.alloc(), 10)?
+    )?;
     match cuts(rt.alloc()) {
         Ok(tally) => println!(rt; "six frames, cut after each byte: {tally}")?,
         Err(fault) => println!(rt; "not written: {fault:?}")?,
     }
     Ok(())
-}
-
-fn main(rt: HostRuntime) -> anyhow::Result<()> {
-    run(&rt)
 }

@@ -1,13 +1,9 @@
 // Lists the frames of the round file on standard input.
 #![tactic(auto)]
 
-fn run(rt: &HostRuntime) -> anyhow::Result<()> {
+fn main(rt: HostRuntime) -> anyhow::Result<()> {
     let file = input::read_round(rt.alloc(), rt.stdin())?;
     let text = listing::list(rt.alloc(), file.as_slice())?;
     rt.print(text)?;
     Ok(())
-}
-
-fn main(rt: HostRuntime) -> anyhow::Result<()> {
-    run(&rt)
 }
