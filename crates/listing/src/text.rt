@@ -7,7 +7,7 @@ use frame::frame::{Call, Frame};
 use std::fmt;
 
 // Bytes as text, with a full stop for each that is not a printable ASCII character.
-#[derive(Clone, Copy)]
+#[derive(Clone, Copy, Debug)]
 pub struct Printable<'a>(pub &'a [u8]);
 
 fn visible(byte: u8) -> char

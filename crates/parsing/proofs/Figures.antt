@@ -1,14 +1,17 @@
 -- Numbers as they are printed. Assumes nothing.
-use Rattle.std.proofs.Common.{◌≡◌, ℕ, zero, suc, ◌+◌, ◌-◌, ◌*◌, ◌^◌, ◌<◌, ◌≤◌, Bool, true, false, eqb, List, [], ◌∷◌, ◌++◌, length, get_or, take, is_some, Some, None, Ok, Err, decimal, Option, Result, sym, refl, ap, ◌∙◌, subst, append-nil, arith, length-take, rules}
-use Rattle.std.proofs.lemmas.Fmt.{digits_decimal, digits_value-decimal, decimal-digits_value, decimal_nonempty, decimal_digit, first_decimal, length-decimal-le, decimal_injective}
-use Rattle.std.proofs.lemmas.Int.Digits.{digits_value_more}
-use Rattle.std.proofs.lemmas.Str.Parse.{IsNumeralModel, numerals_by_value, digits_value_short}
+use Rattle.std.proofs.Common.{◌≡◌, ℕ, zero, suc, ◌+◌, ◌^◌, ◌<◌, ◌≤◌, Bool, true, false, eqb, leb, inl, inr, ◌⊎◌, leb-true, List, [], ◌∷◌, ◌++◌, length, get_or, take, is_some, Some, None, Ok, Err, decimal, Option, Result, IsOk, IsErr, IsErrAnd, MatchResult, sym, refl, ap, ◌∙◌, subst, append_assoc, append-nil, arith, length-append, rules}
+use Rattle.std.proofs.lemmas.Fmt.{digits_decimal, digits_value-decimal, decimal-digits_value, decimal_nonempty, decimal_digit, first_decimal, decimal_injective}
+use Rattle.std.specs.Str.{IsUtf8}
+use Rattle.std.proofs.lemmas.List.{get_or_past}
+use Rattle.std.proofs.lemmas.Str.{IsUtf8-from_ascii}
+use Rattle.std.proofs.lemmas.Str.Parse.{IsNumeralModel, numerals_by_value, parse_digits}
+use Rattle.std.proofs.ByRecursion.{All-push}
+use Rattle.std.specs.List.{AllByRecursion}
+use Rattle.std.specs.Result.{OkIff}
 use Rattle.std.proofs.lemmas.Bool.Decides.{nat_tests}
-use Rattle.std.specs.Str.Parse.{digits_value}
-use Rattle.std.specs.Char.{digit_value}
+use Rattle.std.specs.Str.Parse.{digits_value, ParsesUnsigned}
 use Rattle.std.specs.Option.{option_map}
-use Rattle.listing.specs.Text.{pair_text, three_text}
-use Rattle.parsing.specs.Numbers.{Settles, seen, numeral, Field, One, Two, Three}
+use Rattle.parsing.specs.Numbers.{Settles, seen, numeral, Field, spaced, Numbers}
 use Rattle.parsing.specs.Splits.{front_of, back_of, behind, within}
 use Rattle.parsing.proofs.Parting.{clear, parts_whole, front_clear, back_clear, within_first}
 
@@ -45,18 +48,6 @@ wide n h = omega arith
 pub decimal_clear : (n : ℕ) → n < 65536 → clear 32 (decimal n) ≡ true
 decimal_clear n h = digits_clear (decimal n) (digits_decimal own n (wide n h))
 
--- The loop over the digits.
-pub value_small : (ds : List ℕ) (i : ℕ) → within 48 57 ds ≡ true → length ds ≤ 5 → digits_value 10 (take i ds) < 100000
-value_small ds i e few = digits_value_short own (take i ds) 5 (within_take 48 57 ds i e) (simp length-take (omega arith))
-
-pub value_next : (ds : List ℕ) (i : ℕ) → within 48 57 ds ≡ true → i < length ds → digits_value 10 (take i ds) * 10 + (get_or ds i 0 - 48) ≡ digits_value 10 (take (i + 1) ds)
-value_next ds i e h =
-    let p = within_at 48 57 ds i e h in
-    let l = p.0 in
-    let u = p.1 in
-    let same : digit_value (get_or ds i 0) ≡ get_or ds i 0 - 48 = grind (arith, nat_tests) in
-    sym (digits_value_more 10 ds i h ∙ ap (λ d. digits_value 10 (take i ds) * 10 + d) same)
-
 -- What is printed is a numeral of at most five digits.
 pub numeral_decimal : (n : ℕ) → n < 65536 → numeral (decimal n) ≡ true
 numeral_decimal n h = by (eqb n 0) refl
@@ -83,94 +74,125 @@ module _ (field : List ℕ) where
   pub no_numeral : numeral field ≡ false → (n : ℕ) → Field field n → ⊥
   no_numeral e n f = let is = ap numeral f.1 ∙ numeral_decimal n f.0 in grind arith
 
-  pub too_long : 5 < length field → (n : ℕ) → Field field n → ⊥
-  too_long h n f = let few = length-decimal-le 5 n (omega arith) (let s = f.0 in omega arith) (wide n f.0) in let e = ap length f.1 in omega arith
-
   pub too_large : 65535 < digits_value 10 field → (n : ℕ) → Field field n → ⊥
   too_large h n f = let e = ap (digits_value 10) f.1 ∙ digits_value-decimal own n (wide n f.0) in let s = f.0 in omega arith
 
--- A number, a space, and what stands behind it.
-module _ (x : ℕ) (rest fields : List ℕ) (small : x < 65536) (same : fields ≡ decimal x ++ (32 ∷ rest)) where
-  joined_front : front_of 32 fields ≡ decimal x
-  joined_front = ap (front_of 32) same ∙ front_clear 32 (decimal x) (Some rest) (decimal_clear x small)
+  -- What `parse` gives for a numeral.
+  pub parsed : {E : Type 0} (r : Result ℕ E) → numeral field ≡ true → ParsesUnsigned 16 10 field r → Settles r (Field field)
+  parsed r e parses = by r (parse_digits own 16 field r parses figures)
+    where
+      figures : within 48 57 field ≡ true
+      figures = grind (arith, nat_tests)
 
-  joined_back : back_of 32 fields ≡ Some rest
-  joined_back = ap (back_of 32) same ∙ back_clear 32 (decimal x) (Some rest) (decimal_clear x small)
+      long : 0 < length field
+      long = grind (arith, nat_tests)
+
+      by : {E : Type 0} (r : Result ℕ E) → OkIff r ((0 < length field) × (digits_value 10 field < 2 ^ 16)) (digits_value 10 field) → Settles r (Field field)
+      by (Ok n) ok = subst (Field field) (sym ok.1) (field_is e (omega arith))
+      by (Err x) none = let beyond : digits_value 10 field < 65536 → ⊥ = λ small. none (long, small) in too_large (omega (arith, beyond))
+
+either : (n i : ℕ) → (n ≤ i) ⊎ (i < n)
+either n i = by (leb n i) refl
+  where
+    by : (b : Bool) → leb n i ≡ b → (n ≤ i) ⊎ (i < n)
+    by true e = inl (leb-true n i e)
+    by false e = inr (grind (arith, nat_tests))
+
+pub digits_utf8 : (field : List ℕ) → numeral field ≡ true → IsUtf8 field
+digits_utf8 field e = IsUtf8-from_ascii field (λ i. small i (either (length field) i))
+  where
+    figures : within 48 57 field ≡ true
+    figures = grind (arith, nat_tests)
+
+    small : (i : ℕ) → (length field ≤ i) ⊎ (i < length field) → get_or field i 0 < 128
+    small i (inl past) = omega (arith, get_or_past field i 0 past)
+    small i (inr here) = let p = within_at 48 57 field i figures here in let h = p.1 in omega arith
+
+-- Numbers that stand behind a name: those that are read, and what is left behind them.
+abbrev AllSmall : List ℕ → Type 0
+AllSmall ns = AllByRecursion (λ n. n < 65536) ns
+
+pub record Sofar (rest : Option (List ℕ)) (ns : List ℕ) (left : Option (List ℕ)) : Type 0 where
+  pub small : AllSmall ns
+  pub whole : (ms : List ℕ) → left ≡ spaced ms → rest ≡ spaced (ns ++ ms)
+  pub parts : (all : List ℕ) → AllSmall all → rest ≡ spaced all → (ms : List ℕ) × (all ≡ ns ++ ms) × AllSmall ms × (left ≡ spaced ms)
+
+pub sofar_none : (rest : Option (List ℕ)) → Sofar rest [] rest
+sofar_none rest = record { small = tt; whole = λ ms e. e; parts = λ all small e. (all, refl, small, e) }
 
 pub inside : {X : Type 0} (x y : X) → ◌≡◌ {A = Option X} (Some x) (Some y) → x ≡ y
 inside x y e = cc
 
+-- The next field, where one is left.
+module _ (fields front : List ℕ) (left back : Option (List ℕ)) (is : left ≡ Some fields) (f : front ≡ front_of 32 fields) (b : back ≡ back_of 32 fields) where
+  first_is : (m : ℕ) (ms : List ℕ) → m < 65536 → left ≡ spaced (m ∷ ms) → (front ≡ decimal m) × (back ≡ spaced ms)
+  first_is m ms small e =
+      let same = inside fields (decimal m ++ behind 32 (spaced ms)) (sym is ∙ e) in (
+        f ∙ ap (front_of 32) same ∙ front_clear 32 (decimal m) (spaced ms) (decimal_clear m small),
+        b ∙ ap (back_of 32) same ∙ back_clear 32 (decimal m) (spaced ms) (decimal_clear m small),
+      )
+
+  joins : (n : ℕ) (ms : List ℕ) → front ≡ decimal n → back ≡ spaced ms → left ≡ spaced (n ∷ ms)
+  joins n ms e h = is ∙ ap (λ (l : List ℕ). Some l) (parts_whole 32 fields ∙ (λ i. (sym f ∙ e) i ++ behind 32 ((sym b ∙ h) i)))
+
+  module _ {rest : Option (List ℕ)} {ns : List ℕ} (sofar : Sofar rest ns left) where
+    -- The numbers of the whole have one for this field.
+    pub next_of : {count : ℕ} (all : List ℕ) → Numbers count rest all → (m : ℕ) × (ms : List ℕ) × Field front m × AllSmall ms × (back ≡ spaced ms) × (all ≡ ns ++ (m ∷ ms))
+    next_of all numbers = by (sofar.parts all numbers.small numbers.text)
+      where
+        by : (ms : List ℕ) × (all ≡ ns ++ ms) × AllSmall ms × (left ≡ spaced ms) → (m : ℕ) × (ms : List ℕ) × Field front m × AllSmall ms × (back ≡ spaced ms) × (all ≡ ns ++ (m ∷ ms))
+        by ([], whole, small, e) = absurd (let no : ◌≡◌ {A = Option (List ℕ)} (Some fields) None = sym is ∙ e in cc)
+        by (m ∷ ms, whole, small, e) = let p = first_is m ms small.0 e in (m, ms, (small.0, p.0), small.1, p.1, whole)
+
+    pub sofar_more : (n : ℕ) → Field front n → Sofar rest (ns ++ (n ∷ [])) back
+    sofar_more n field = record {
+      small = All-push (λ n. n < 65536) ns n sofar.small field.0;
+      whole = λ ms e. sofar.whole (n ∷ ms) (joins n ms field.1 e) ∙ ap spaced (sym (append_assoc ns (n ∷ []) ms));
+      parts = λ all small e. by all (sofar.parts all small e);
+    }
+      where
+        by : (all : List ℕ) → (ms : List ℕ) × (all ≡ ns ++ ms) × AllSmall ms × (left ≡ spaced ms) → (ms : List ℕ) × (all ≡ (ns ++ (n ∷ [])) ++ ms) × AllSmall ms × (back ≡ spaced ms)
+        by all ([], whole, small, e) = absurd (let no : ◌≡◌ {A = Option (List ℕ)} (Some fields) None = sym is ∙ e in cc)
+        by all (m ∷ ms, whole, small, e) =
+            let p = first_is m ms small.0 e in
+            let same : m ≡ n = decimal_injective m n (wide m small.0) (wide n field.0) (sym p.0 ∙ field.1) in
+            (ms, whole ∙ (λ i. ns ++ (same i ∷ ms)) ∙ sym (append_assoc ns (n ∷ []) ms), small.1, p.1)
+
+    pub no_number : {count : ℕ} → ((n : ℕ) → Field front n → ⊥) → (all : List ℕ) → Numbers count rest all → ⊥
+    no_number none all numbers = let p = next_of all numbers in none p.0 p.2
+
+    pub one_more : {count : ℕ} → length ns + 1 ≡ count → is_some back ≡ true → (all : List ℕ) → Numbers count rest all → ⊥
+    one_more last some all numbers = by (next_of all numbers)
+      where
+        by : (m : ℕ) × (ms : List ℕ) × Field front m × AllSmall ms × (back ≡ spaced ms) × (all ≡ ns ++ (m ∷ ms)) → ⊥
+        by (m, [], field, small, e, whole) = let none = ap is_some e in grind arith
+        by (m, k ∷ ms, field, small, e, whole) = omega (arith, numbers.many, ap length whole, length-append ns (m ∷ k ∷ ms))
+
+-- No number is left.
+pub one_less : {rest left : Option (List ℕ)} {ns : List ℕ} {count : ℕ} → Sofar rest ns left → left ≡ None → length ns < count → (all : List ℕ) → Numbers count rest all → ⊥
+one_less {rest} {left} {ns} sofar none less all numbers = by (sofar.parts all numbers.small numbers.text)
+  where
+    by : (ms : List ℕ) × (all ≡ ns ++ ms) × AllSmall ms × (left ≡ spaced ms) → ⊥
+    by ([], whole, small, e) = omega (arith, numbers.many, ap length whole, length-append ns [])
+    by (m ∷ ms, whole, small, e) = let no : ◌≡◌ {A = Option (List ℕ)} None (spaced (m ∷ ms)) = sym none ∙ e in absurd (grind arith)
+
+pub all_read : {rest left : Option (List ℕ)} {ns : List ℕ} (count : ℕ) → Sofar rest ns left → left ≡ None → length ns ≡ count → Numbers count rest ns
+all_read {ns = ns} count sofar none many = record { many = many; small = sofar.small; text = sofar.whole [] none ∙ ap spaced (append-nil ns) }
+
 -- The numbers behind a name are fixed by it.
-pub one_same : (rest : Option (List ℕ)) (m n : ℕ) → One rest m → One rest n → m ≡ n
-one_same rest m n o p = decimal_injective m n (wide m o.0) (wide n p.0) (inside _ _ (sym o.1 ∙ p.1))
-
-module _ (x y : ℕ) (rest more : List ℕ) (small : x < 65536) (little : y < 65536) (same : decimal x ++ (32 ∷ rest) ≡ decimal y ++ (32 ∷ more)) where
-  first_same : x ≡ y
-  first_same = decimal_injective x y (wide x small) (wide y little) (sym (joined_front x rest _ small refl) ∙ joined_front y more _ little same)
-
-  rest_same : ◌≡◌ {A = Option (List ℕ)} (Some rest) (Some more)
-  rest_same = sym (joined_back x rest _ small refl) ∙ joined_back y more _ little same
-
-pub two_same : (rest : Option (List ℕ)) (p q : ℕ × ℕ) → Two rest p → Two rest q → p ≡ q
-two_same rest p q t u =
-    let e = inside _ _ (sym t.2 ∙ u.2) in
-    let x = first_same p.0 q.0 (decimal p.1) (decimal q.1) t.0 u.0 e in
-    let y = one_same (Some (decimal p.1)) p.1 q.1 (t.1, refl) (u.1, rest_same p.0 q.0 (decimal p.1) (decimal q.1) t.0 u.0 e) in
-    λ i. (x i, y i)
-
-pub three_same : (rest : Option (List ℕ)) (p q : ℕ × ℕ × ℕ) → Three rest p → Three rest q → p ≡ q
-three_same rest p q t u =
-    let back = pair_text p.1 p.2 in
-    let more = pair_text q.1 q.2 in
-    let e = inside _ _ (sym t.3 ∙ u.3) in
-    let x = first_same p.0 q.0 back more t.0 u.0 e in
-    let y = two_same (Some back) (p.1, p.2) (q.1, q.2) (t.1, t.2, refl) (u.1, u.2, rest_same p.0 q.0 back more t.0 u.0 e) in
-    λ i. (x i, (y i).0, (y i).1)
-
--- What stands behind a name, parted at its first space.
-module _ (rest : Option (List ℕ)) (fields front : List ℕ) (back : Option (List ℕ)) (is : rest ≡ Some fields) (f : front ≡ front_of 32 fields) (b : back ≡ back_of 32 fields) where
-  joins : (text : List ℕ) → front ++ behind 32 back ≡ text → rest ≡ Some text
-  joins text e = is ∙ ap (λ (l : List ℕ). Some l) (parts_whole 32 fields ∙ (λ i. sym f i ++ behind 32 (sym b i)) ∙ e)
-
-  parts : (text : List ℕ) → rest ≡ Some text → fields ≡ text
-  parts text e = inside fields text (sym is ∙ e)
-
-  one_is : (n : ℕ) → back ≡ None → Field front n → One rest n
-  one_is n none p = (p.0, joins (decimal n) ((λ i. p.1 i ++ behind 32 (none i)) ∙ append-nil (decimal n)))
-
-  alone : (n : ℕ) → One rest n → fields ≡ decimal n ++ []
-  alone n o = parts (decimal n) o.1 ∙ sym (append-nil (decimal n))
-
-  pub one_more : is_some back ≡ true → (n : ℕ) → One rest n → ⊥
-  one_more some n o =
-      let none = ap is_some (b ∙ ap (back_of 32) (alone n o) ∙ back_clear 32 (decimal n) None (decimal_clear n o.0)) in
-      grind arith
-
-  one_not : ((n : ℕ) → Field front n → ⊥) → (n : ℕ) → One rest n → ⊥
-  one_not none n o = none n (o.0, f ∙ ap (front_of 32) (alone n o) ∙ front_clear 32 (decimal n) None (decimal_clear n o.0))
-
-  pub two_are : (x y : ℕ) → Field front x → One back y → Two rest (x, y)
-  two_are x y p o = (p.0, o.0, joins (pair_text x y) (λ i. p.1 i ++ behind 32 (o.1 i)))
-
-  pub two_front : ((n : ℕ) → Field front n → ⊥) → (p : ℕ × ℕ) → Two rest p → ⊥
-  two_front none p t = none p.0 (t.0, f ∙ joined_front p.0 (decimal p.1) fields t.0 (parts _ t.2))
-
-  pub two_back : ((n : ℕ) → One back n → ⊥) → (p : ℕ × ℕ) → Two rest p → ⊥
-  two_back none p t = none p.1 (t.1, b ∙ joined_back p.0 (decimal p.1) fields t.0 (parts _ t.2))
-
-  pub three_are : (x : ℕ) (p : ℕ × ℕ) → Field front x → Two back p → Three rest (x, p.0, p.1)
-  three_are x p e t = (e.0, t.0, t.1, joins (three_text x p.0 p.1) (λ i. e.1 i ++ behind 32 (t.2 i)))
-
-  pub three_front : ((n : ℕ) → Field front n → ⊥) → (p : ℕ × ℕ × ℕ) → Three rest p → ⊥
-  three_front none p t = none p.0 (t.0, f ∙ joined_front p.0 (pair_text p.1 p.2) fields t.0 (parts _ t.3))
-
-  pub three_back : ((p : ℕ × ℕ) → Two back p → ⊥) → (p : ℕ × ℕ × ℕ) → Three rest p → ⊥
-  three_back none p t = none (p.1, p.2) (t.1, t.2, b ∙ joined_back p.0 (pair_text p.1 p.2) fields t.0 (parts _ t.3))
-
-  -- The answer to the front is the answer to the whole, where nothing stands behind it.
-  pub one_only : {E : Type 0} (r : Result ℕ E) → back ≡ None → Settles r (Field front) → Settles r (One rest)
-  one_only (Ok n) none settles = one_is n none settles
-  one_only (Err e) none settles = one_not settles
+pub numbers_same : {count : ℕ} (rest : Option (List ℕ)) (ms ns : List ℕ) → Numbers count rest ms → Numbers count rest ns → ms ≡ ns
+numbers_same rest ms ns a b = spaced_same ms ns a.small b.small (sym a.text ∙ b.text)
+  where
+    spaced_same : (ms ns : List ℕ) → AllSmall ms → AllSmall ns → spaced ms ≡ spaced ns → ms ≡ ns
+    spaced_same [] [] s t e = refl
+    spaced_same [] (n ∷ ns) s t e = absurd (grind arith)
+    spaced_same (m ∷ ms) [] s t e = absurd (grind arith)
+    spaced_same (m ∷ ms) (n ∷ ns) s t e =
+        let fields = decimal m ++ behind 32 (spaced ms) in
+        let p = first_is fields (decimal m) (spaced (m ∷ ms)) (spaced ms) refl (sym (front_clear 32 (decimal m) (spaced ms) (decimal_clear m s.0))) (sym (back_clear 32 (decimal m) (spaced ms) (decimal_clear m s.0))) n ns t.0 e in
+        let same : m ≡ n = decimal_injective m n (wide m s.0) (wide n t.0) p.0 in
+        let more = spaced_same ms ns s.1 t.1 p.1 in
+        λ i. same i ∷ more i
 
 pub none_mapped : {X Y : Type 0} (f : X → Y) (o : Option X) → is_some o ≡ false → option_map f o ≡ None
 none_mapped f None e = refl
@@ -181,8 +203,23 @@ some_mapped f None e = absurd (grind arith)
 some_mapped f (Some x) e = refl
 
 -- A refusal that is handed on.
-pub handed_on : {X Y E : Type 0} (f : X → Y) (r : Result X E) (e : E) (P : Y → Type 0) → r ≡ Err e → ((y : Y) → P y → ⊥) → Settles (seen f r) P
-handed_on f r e P is none = subst (λ x. Settles (seen f x) P) (sym is) none
+pub handed_on : {X Y E : Type 0} (f : X → Y) (r : Result X E) (P : Y → Type 0) → IsErr r → ((y : Y) → P y → ⊥) → Settles (seen f r) P
+handed_on f (Ok x) P is none = absurd (grind arith)
+handed_on f (Err e) P is none = none
 
-pub refused : {X E : Type 0} (r : Result X E) (e : E) (P : X → Type 0) → r ≡ Err e → ((x : X) → P x → ⊥) → Settles r P
-refused r e P is none = subst (λ x. Settles x P) (sym is) none
+pub refused : {X E : Type 0} (r : Result X E) (P : X → Type 0) → IsErr r → ((x : X) → P x → ⊥) → Settles r P
+refused (Ok x) P is none = absurd (grind arith)
+refused (Err e) P is none = none
+
+-- The same answer with another reason.
+pub err_mapped : {X E F : Type 0} (P : X → Type 0) (Q : E → F → Type 0) (r : Result X E) (s : Result X F) → MatchResult r (λ x. s ≡ Ok x) (λ e. IsErrAnd s (Q e)) → Settles r P → Settles s P
+err_mapped P Q (Ok x) s m settles = subst (λ y. Settles y P) (sym m) settles
+err_mapped P Q (Err e) (Ok x) m settles = absurd (grind arith)
+err_mapped P Q (Err e) (Err f) m settles = settles
+
+pub ok_of : {X E : Type 0} (P : X → Type 0) (Q : E → Type 0) (r : Result X E) → MatchResult r P Q → ((e : E) → Q e → ⊥) → IsOk r
+ok_of P Q (Ok x) m none = refl
+ok_of P Q (Err e) m none = absurd (none e m)
+
+pub at_ok : {X E : Type 0} (P : X → Type 0) (Q : E → Type 0) (r : Result X E) (x : X) → r ≡ Ok x → MatchResult r P Q → P x
+at_ok P Q r x is m = subst (λ y. MatchResult y P Q) is m

@@ -1,8 +1,10 @@
 -- Bytes parted at a mark, and what has no mark. Assumes nothing.
-use Rattle.std.proofs.Common.{◌≡◌, ℕ, ◌+◌, ◌<◌, ◌≤◌, Bool, true, false, cond, not, ◌&&◌, eqb, leb, List, [], ◌∷◌, ◌++◌, length, get_or, take, drop, Some, None, Option, sym, refl, ap, ◌∙◌, append_assoc, append-nil, arith}
-use Rattle.std.proofs.lemmas.List.{take_more, drop_more, drop_all, take_all}
+use Rattle.std.proofs.Common.{◌≡◌, ℕ, zero, suc, ◌+◌, ◌<◌, ◌≤◌, Bool, true, false, cond, not, ◌&&◌, eqb, leb, ltb, List, [], ◌∷◌, ◌++◌, length, get_or, take, drop, Some, None, Option, sym, refl, ap, ◌∙◌, add-one, arith}
+use Rattle.std.proofs.lemmas.List.Quantifiers.{position-Some}
+use Rattle.std.proofs.lemmas.List.Sums.{fails_before_first}
 use Rattle.std.proofs.lemmas.Bool.Decides.{nat_tests}
-use Rattle.parsing.specs.Splits.{front_of, back_of, behind, within}
+use Rattle.std.specs.List.{position, position_or_len}
+use Rattle.parsing.specs.Splits.{front_of, back_of, behind}
 
 -- No byte is the mark.
 abbrev pub clear : ℕ → List ℕ → Bool
@@ -41,61 +43,45 @@ module _ (mark : ℕ) where
       by true more h = absurd (grind arith)
       by false more h = more h
 
-  -- The loop over the bytes: no mark stands before the index.
-  pub record Passed (bytes : List ℕ) (i : ℕ) : Type 0 where
-    pub front : front_of mark bytes ≡ take i bytes ++ front_of mark (drop i bytes)
-    pub back : back_of mark bytes ≡ back_of mark (drop i bytes)
+  abbrev pub is_mark : ℕ → Bool
+  is_mark byte = eqb byte mark
 
-  pub passed_none : (bytes : List ℕ) → Passed bytes 0
-  passed_none bytes = record { front = refl; back = refl }
-
-  pub passed_more : (bytes : List ℕ) (i : ℕ) → Passed bytes i → i < length bytes → (get_or bytes i 0 ≡ mark → ⊥) → Passed bytes (i + 1)
-  passed_more bytes i so within isnt =
-      let byte = get_or bytes i 0 in
-      let rest = drop (i + 1) bytes in
-      let other : eqb byte mark ≡ false = grind (arith, nat_tests) in
-      let here = drop_more bytes i 0 within in
-      record {
-        front = so.front ∙ ap (λ (l : List ℕ). take i bytes ++ front_of mark l) here
-            ∙ ap (λ b. take i bytes ++ cond b [] (byte ∷ front_of mark rest)) other
-            ∙ sym (append_assoc (take i bytes) (byte ∷ []) (front_of mark rest))
-            ∙ ap (λ (l : List ℕ). l ++ front_of mark rest) (sym (take_more bytes i 0 within));
-        back = so.back ∙ ap (back_of mark) here ∙ ap (λ b. cond b (Some rest) (back_of mark rest)) other;
-      }
-
-  pub passed_found : (bytes : List ℕ) (i : ℕ) → Passed bytes i → i < length bytes → get_or bytes i 0 ≡ mark
-      → (take i bytes ≡ front_of mark bytes) × (Some (drop (i + 1) bytes) ≡ back_of mark bytes)
-  passed_found bytes i so within is =
-      let byte = get_or bytes i 0 in
-      let rest = drop (i + 1) bytes in
-      let same : eqb byte mark ≡ true = grind (arith, nat_tests) in
-      let here = drop_more bytes i 0 within in (
-        sym (so.front ∙ ap (λ (l : List ℕ). take i bytes ++ front_of mark l) here
-            ∙ ap (λ b. take i bytes ++ cond b [] (byte ∷ front_of mark rest)) same ∙ append-nil (take i bytes)),
-        sym (so.back ∙ ap (back_of mark) here ∙ ap (λ b. cond b (Some rest) (back_of mark rest)) same),
+  -- The first mark parts the bytes, and where there is none, they stay whole.
+  parted : (bytes : List ℕ) (i : ℕ) → i < length bytes → is_mark (get_or bytes i 0) ≡ true → ((k : ℕ) → k < i → is_mark (get_or bytes k 0) ≡ false)
+      → (take i bytes ≡ front_of mark bytes) × (Some (drop (suc i) bytes) ≡ back_of mark bytes)
+  parted [] i h e none = absurd (omega arith)
+  parted (byte ∷ bytes) zero h e none = (sym (ap (λ b. cond b [] (byte ∷ front_of mark bytes)) e), sym (ap (λ b. cond b (Some bytes) (back_of mark bytes)) e))
+  parted (byte ∷ bytes) (suc i) h e none =
+      let first = none 0 (omega arith) in
+      let more = parted bytes i (omega arith) e (λ k below. none (suc k) (omega arith)) in (
+        ap (λ (l : List ℕ). byte ∷ l) more.0 ∙ sym (ap (λ b. cond b [] (byte ∷ front_of mark bytes)) first),
+        more.1 ∙ sym (ap (λ b. cond b (Some bytes) (back_of mark bytes)) first),
       )
 
-  pub passed_all : (bytes : List ℕ) (i : ℕ) → Passed bytes i → length bytes ≤ i → (bytes ≡ front_of mark bytes) × (None ≡ back_of mark bytes)
-  passed_all bytes i so done =
-      let gone = drop_all i bytes done in (
-        sym (so.front ∙ ap (λ (l : List ℕ). take i bytes ++ front_of mark l) gone ∙ append-nil (take i bytes) ∙ take_all i bytes done),
-        sym (so.back ∙ ap (back_of mark) gone),
+  unparted : (bytes : List ℕ) → ((k : ℕ) → k < length bytes → is_mark (get_or bytes k 0) ≡ false) → (bytes ≡ front_of mark bytes) × (None ≡ back_of mark bytes)
+  unparted [] none = (refl, refl)
+  unparted (byte ∷ bytes) none =
+      let first = none 0 (omega arith) in
+      let more = unparted bytes (λ k below. none (suc k) (omega arith)) in (
+        ap (λ (l : List ℕ). byte ∷ l) more.0 ∙ sym (ap (λ b. cond b [] (byte ∷ front_of mark bytes)) first),
+        more.1 ∙ sym (ap (λ b. cond b (Some bytes) (back_of mark bytes)) first),
       )
+
+  past_end : (n long : ℕ) → cond (ltb n long) (Some n) None ≡ None → long ≤ n
+  past_end n long e = grind (arith, nat_tests)
+
+  -- What `position` finds.
+  pub parted_at : (bytes : List ℕ) (i : ℕ) → position is_mark bytes ≡ Some i → (take i bytes ≡ front_of mark bytes) × (Some (drop (i + 1) bytes) ≡ back_of mark bytes)
+  parted_at bytes i e =
+      let found = position-Some is_mark bytes i 0 e in
+      let p = parted bytes i found.0 found.1 found.2 in
+      (p.0, ap (λ k. Some (drop k bytes)) (add-one i) ∙ p.1)
+
+  pub parted_nowhere : (bytes : List ℕ) → position is_mark bytes ≡ None → (bytes ≡ front_of mark bytes) × (None ≡ back_of mark bytes)
+  parted_nowhere bytes e =
+      let past = past_end (position_or_len is_mark bytes) (length bytes) e in
+      unparted bytes (λ k below. fails_before_first is_mark bytes k 0 (omega (arith, past, below)))
 
 module _ (low high : ℕ) where
   pub within_first : (byte : ℕ) (more : Bool) → ((leb low byte && leb byte high) && more) ≡ true → (low ≤ byte) × (byte ≤ high) × (more ≡ true)
   within_first byte more e = grind (arith, nat_tests)
-
-  -- A byte outside the range, and one inside it.
-  pub within_out : (bytes : List ℕ) (i : ℕ) → within low high (drop i bytes) ≡ within low high bytes → i < length bytes
-      → (leb low (get_or bytes i 0) && leb (get_or bytes i 0) high) ≡ false → false ≡ within low high bytes
-  within_out bytes i so inside out =
-      sym (ap (λ b. b && within low high (drop (i + 1) bytes)) out) ∙ sym (ap (within low high) (drop_more bytes i 0 inside)) ∙ so
-
-  pub within_more : (bytes : List ℕ) (i : ℕ) → within low high (drop i bytes) ≡ within low high bytes → i < length bytes
-      → (leb low (get_or bytes i 0) && leb (get_or bytes i 0) high) ≡ true → within low high (drop (i + 1) bytes) ≡ within low high bytes
-  within_more bytes i so inside is =
-      sym (ap (λ b. b && within low high (drop (i + 1) bytes)) is) ∙ sym (ap (within low high) (drop_more bytes i 0 inside)) ∙ so
-
-  pub within_all : (bytes : List ℕ) (i : ℕ) → within low high (drop i bytes) ≡ within low high bytes → length bytes ≤ i → true ≡ within low high bytes
-  within_all bytes i so done = sym (ap (within low high) (drop_all i bytes done)) ∙ so

@@ -1,16 +1,16 @@
 -- A name and what stands behind it, and the frames that they say. Assumes nothing.
-use Rattle.std.proofs.Common.{◌≡◌, ℕ, true, cond, eqb, List, [], ◌∷◌, ◌++◌, map, get_or, Some, None, decimal, Option, sym, refl, ap, ◌∙◌, subst, subst₂, arith}
+use Rattle.std.proofs.Common.{◌≡◌, ℕ, true, cond, eqb, List, [], ◌∷◌, ◌++◌, map, get_or, Some, None, codes, decimal, Option, sym, refl, ap, ◌∙◌, subst, subst₂, append-nil, arith}
 use Rattle.std.proofs.lemmas.Bool.Decides.{nat_tests}
 use Rattle.call.specs.declared.Call.TheVariants as call
 use Rattle.frame.specs.Format.{Content, start, call, note, unknown}
-use Rattle.listing.specs.Text.{visible, pair_text, three_text, says}
+use Rattle.listing.specs.Text.{visible, says}
 use Rattle.parsing.specs.declared.name.Name.{Name}
 use Rattle.parsing.specs.declared.name.Name.TheVariants.{Start, Post, Get, Off, On, Release, Seat, Mend, Note}
 use Rattle.parsing.specs.Line.{Sayable, Says, Noted}
 use Rattle.parsing.specs.Names.{spelled}
-use Rattle.parsing.specs.Numbers.{One, Two, Three}
+use Rattle.parsing.specs.Numbers.{spaced, Numbers}
 use Rattle.parsing.specs.Splits.{front_of, back_of, behind, within}
-use Rattle.parsing.proofs.Figures.{inside, one_same, two_same, three_same}
+use Rattle.parsing.proofs.Figures.{inside, numbers_same}
 use Rattle.parsing.proofs.Parting.{clear, parts_whole, front_clear, back_clear, within_first}
 
 -- The first two letters tell the names apart.
@@ -44,7 +44,7 @@ spelled_clear Seat = refl
 spelled_clear Mend = refl
 spelled_clear Note = refl
 
--- The name of a frame, and what its line has behind the name.
+-- The name of a frame, and the numbers of its line.
 abbrev pub name_of : Content → Name
 name_of (start items lines field) = Start
 name_of (call (call.Post item line word)) = Post
@@ -57,15 +57,22 @@ name_of (call (call.Mend bay)) = Mend
 name_of (note text) = Note
 name_of (unknown kind body) = Note
 
+abbrev pub numbers_of : Content → List ℕ
+numbers_of (start items lines field) = items ∷ lines ∷ field ∷ []
+numbers_of (call (call.Post item line word)) = item ∷ line ∷ word ∷ []
+numbers_of (call (call.Get item line)) = item ∷ line ∷ []
+numbers_of (call (call.Off bay)) = bay ∷ []
+numbers_of (call (call.On bay)) = bay ∷ []
+numbers_of (call (call.Release bay)) = bay ∷ []
+numbers_of (call call.Seat) = []
+numbers_of (call (call.Mend bay)) = bay ∷ []
+numbers_of (note text) = []
+numbers_of (unknown kind body) = []
+
+-- What a line has behind the name.
 abbrev pub rest_of : Content → Option (List ℕ)
-rest_of (start items lines field) = Some (three_text items lines field)
-rest_of (call (call.Post item line word)) = Some (three_text item line word)
-rest_of (call (call.Get item line)) = Some (pair_text item line)
-rest_of (call (call.Off bay)) = Some (decimal bay)
-rest_of (call (call.On bay)) = Some (decimal bay)
-rest_of (call (call.Release bay)) = Some (decimal bay)
-rest_of (call call.Seat) = None
-rest_of (call (call.Mend bay)) = Some (decimal bay)
+rest_of (start items lines field) = spaced (items ∷ lines ∷ field ∷ [])
+rest_of (call c) = spaced (numbers_of (call c))
 rest_of (note text) = Some text
 rest_of (unknown kind body) = None
 
@@ -78,15 +85,19 @@ printed_same (byte ∷ text) e =
     let same : visible byte ≡ byte = grind (arith, nat_tests) in
     λ i. same i ∷ printed_same text p.2 i
 
+-- The last number of a line.
+last : (before : List ℕ) (n : ℕ) → before ++ decimal n ≡ before ++ (decimal n ++ [])
+last before n = ap (λ (l : List ℕ). before ++ l) (sym (append-nil (decimal n)))
+
 says_parts : (c : Content) → Sayable c → says c ≡ spelled (name_of c) ++ behind 32 (rest_of c)
-says_parts (start items lines field) s = refl
-says_parts (call (call.Post item line word)) s = refl
-says_parts (call (call.Get item line)) s = refl
-says_parts (call (call.Off bay)) s = refl
-says_parts (call (call.On bay)) s = refl
-says_parts (call (call.Release bay)) s = refl
+says_parts (start items lines field) s = ap (λ (l : List ℕ). codes "start " ++ (decimal items ++ (codes " " ++ (decimal lines ++ l)))) (last (codes " ") field)
+says_parts (call (call.Post item line word)) s = ap (λ (l : List ℕ). codes "post " ++ (decimal item ++ (codes " " ++ (decimal line ++ l)))) (last (codes " ") word)
+says_parts (call (call.Get item line)) s = ap (λ (l : List ℕ). codes "get " ++ (decimal item ++ l)) (last (codes " ") line)
+says_parts (call (call.Off bay)) s = last (codes "off ") bay
+says_parts (call (call.On bay)) s = last (codes "on ") bay
+says_parts (call (call.Release bay)) s = last (codes "release ") bay
 says_parts (call call.Seat) s = refl
-says_parts (call (call.Mend bay)) s = refl
+says_parts (call (call.Mend bay)) s = last (codes "mend ") bay
 says_parts (note text) s = ap (λ (l : List ℕ). spelled Note ++ (32 ∷ l)) (printed_same text s.printable)
 says_parts (unknown kind body) s = absurd s
 
@@ -96,37 +107,41 @@ frame_says c n rest name same s = record { sayable = s; text = (λ i. spelled (n
 
 -- What stands behind a name makes it this frame.
 abbrev Made : Name → Option (List ℕ) → Content → Type 0
-Made Start rest c = (t : ℕ × ℕ × ℕ) × Three rest t × (c ≡ start t.0 t.1 t.2)
-Made Post rest c = (t : ℕ × ℕ × ℕ) × Three rest t × (c ≡ call (call.Post t.0 t.1 t.2))
-Made Get rest c = (p : ℕ × ℕ) × Two rest p × (c ≡ call (call.Get p.0 p.1))
-Made Off rest c = (n : ℕ) × One rest n × (c ≡ call (call.Off n))
-Made On rest c = (n : ℕ) × One rest n × (c ≡ call (call.On n))
-Made Release rest c = (n : ℕ) × One rest n × (c ≡ call (call.Release n))
+Made Start rest c = (ns : List ℕ) × Numbers 3 rest ns × (c ≡ start (get_or ns 0 0) (get_or ns 1 0) (get_or ns 2 0))
+Made Post rest c = (ns : List ℕ) × Numbers 3 rest ns × (c ≡ call (call.Post (get_or ns 0 0) (get_or ns 1 0) (get_or ns 2 0)))
+Made Get rest c = (ns : List ℕ) × Numbers 2 rest ns × (c ≡ call (call.Get (get_or ns 0 0) (get_or ns 1 0)))
+Made Off rest c = (ns : List ℕ) × Numbers 1 rest ns × (c ≡ call (call.Off (get_or ns 0 0)))
+Made On rest c = (ns : List ℕ) × Numbers 1 rest ns × (c ≡ call (call.On (get_or ns 0 0)))
+Made Release rest c = (ns : List ℕ) × Numbers 1 rest ns × (c ≡ call (call.Release (get_or ns 0 0)))
 Made Seat rest c = c ≡ call call.Seat
-Made Mend rest c = (n : ℕ) × One rest n × (c ≡ call (call.Mend n))
+Made Mend rest c = (ns : List ℕ) × Numbers 1 rest ns × (c ≡ call (call.Mend (get_or ns 0 0)))
 Made Note rest c = (text : List ℕ) × Noted rest text × (c ≡ note text)
 
 made : (c : Content) → Sayable c → Made (name_of c) (rest_of c) c
-made (start items lines field) s = ((items, lines, field), (s.0, s.1, s.2, refl), refl)
-made (call (call.Post item line word)) s = ((item, line, word), (s.0, s.1, s.2, refl), refl)
-made (call (call.Get item line)) s = ((item, line), (s.0, s.1, refl), refl)
-made (call (call.Off bay)) s = (bay, (s, refl), refl)
-made (call (call.On bay)) s = (bay, (s, refl), refl)
-made (call (call.Release bay)) s = (bay, (s, refl), refl)
+made (start items lines field) s = (items ∷ lines ∷ field ∷ [], record { many = refl; small = (s.0, (s.1, (s.2, tt))); text = refl }, refl)
+made (call (call.Post item line word)) s = (item ∷ line ∷ word ∷ [], record { many = refl; small = (s.0, (s.1, (s.2, tt))); text = refl }, refl)
+made (call (call.Get item line)) s = (item ∷ line ∷ [], record { many = refl; small = (s.0, (s.1, tt)); text = refl }, refl)
+made (call (call.Off bay)) s = (bay ∷ [], record { many = refl; small = (s, tt); text = refl }, refl)
+made (call (call.On bay)) s = (bay ∷ [], record { many = refl; small = (s, tt); text = refl }, refl)
+made (call (call.Release bay)) s = (bay ∷ [], record { many = refl; small = (s, tt); text = refl }, refl)
 made (call call.Seat) s = refl
-made (call (call.Mend bay)) s = (bay, (s, refl), refl)
+made (call (call.Mend bay)) s = (bay ∷ [], record { many = refl; small = (s, tt); text = refl }, refl)
 made (note text) s = (text, (s, refl), refl)
 made (unknown kind body) s = absurd s
 
+-- A frame that is made of the numbers behind a name is fixed by them.
+of_numbers : {count : ℕ} (rest : Option (List ℕ)) (frame : List ℕ → Content) (c d : Content) → (ns : List ℕ) × Numbers count rest ns × (c ≡ frame ns) → (ns : List ℕ) × Numbers count rest ns × (d ≡ frame ns) → c ≡ d
+of_numbers rest frame c d m k = m.2 ∙ ap frame (numbers_same rest m.0 k.0 m.1 k.1) ∙ sym k.2
+
 made_same : (n : Name) (rest : Option (List ℕ)) (c d : Content) → Made n rest c → Made n rest d → c ≡ d
-made_same Start rest c d m k = m.2 ∙ ap (λ (t : ℕ × ℕ × ℕ). start t.0 t.1 t.2) (three_same rest m.0 k.0 m.1 k.1) ∙ sym k.2
-made_same Post rest c d m k = m.2 ∙ ap (λ (t : ℕ × ℕ × ℕ). call (call.Post t.0 t.1 t.2)) (three_same rest m.0 k.0 m.1 k.1) ∙ sym k.2
-made_same Get rest c d m k = m.2 ∙ ap (λ (p : ℕ × ℕ). call (call.Get p.0 p.1)) (two_same rest m.0 k.0 m.1 k.1) ∙ sym k.2
-made_same Off rest c d m k = m.2 ∙ ap (λ n. call (call.Off n)) (one_same rest m.0 k.0 m.1 k.1) ∙ sym k.2
-made_same On rest c d m k = m.2 ∙ ap (λ n. call (call.On n)) (one_same rest m.0 k.0 m.1 k.1) ∙ sym k.2
-made_same Release rest c d m k = m.2 ∙ ap (λ n. call (call.Release n)) (one_same rest m.0 k.0 m.1 k.1) ∙ sym k.2
+made_same Start rest c d m k = of_numbers rest (λ ns. start (get_or ns 0 0) (get_or ns 1 0) (get_or ns 2 0)) c d m k
+made_same Post rest c d m k = of_numbers rest (λ ns. call (call.Post (get_or ns 0 0) (get_or ns 1 0) (get_or ns 2 0))) c d m k
+made_same Get rest c d m k = of_numbers rest (λ ns. call (call.Get (get_or ns 0 0) (get_or ns 1 0))) c d m k
+made_same Off rest c d m k = of_numbers rest (λ ns. call (call.Off (get_or ns 0 0))) c d m k
+made_same On rest c d m k = of_numbers rest (λ ns. call (call.On (get_or ns 0 0))) c d m k
+made_same Release rest c d m k = of_numbers rest (λ ns. call (call.Release (get_or ns 0 0))) c d m k
 made_same Seat rest c d m k = m ∙ sym k
-made_same Mend rest c d m k = m.2 ∙ ap (λ n. call (call.Mend n)) (one_same rest m.0 k.0 m.1 k.1) ∙ sym k.2
+made_same Mend rest c d m k = of_numbers rest (λ ns. call (call.Mend (get_or ns 0 0))) c d m k
 made_same Note rest c d m k = m.2 ∙ ap note (inside _ _ (sym m.1.1 ∙ k.1.1)) ∙ sym k.2
 
 module _ (line : List ℕ) (c : Content) (s : Says line c) where

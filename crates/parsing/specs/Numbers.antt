@@ -1,7 +1,7 @@
 -- The numbers of a line. Assumes nothing.
-use Rattle.std.specs.Prelude.{◌≡◌, ℕ, ◌<◌, Bool, not, ◌&&◌, ◌||◌, List, length, Some, Ok, Err, decimal, Option, Result, ◌==◌, nat_lt, slice_index}
-use Rattle.listing.specs.Text.{pair_text, three_text}
-use Rattle.parsing.specs.Splits.{within}
+use Rattle.std.specs.Prelude.{◌≡◌, ℕ, ◌<◌, Bool, not, ◌&&◌, ◌||◌, List, [], ◌∷◌, ◌++◌, length, Some, None, Ok, Err, decimal, Option, Result, ◌==◌, nat_lt, slice_index}
+use Rattle.std.specs.List.{AllByRecursion}
+use Rattle.parsing.specs.Splits.{within, behind}
 
 -- The result is a value of which P holds, or there is no such value.
 abbrev pub Settles : {X E : Type 0} → Result X E → (X → Type 0) → Type 0
@@ -21,12 +21,13 @@ numeral field = (nat_lt 0 (length field) && (length field == 1 || not (slice_ind
 abbrev pub Field : List ℕ → ℕ → Type 0
 Field field n = (n < 65536) × (field ≡ decimal n)
 
--- One, two or three numbers stand behind a name.
-abbrev pub One : Option (List ℕ) → ℕ → Type 0
-One rest n = (n < 65536) × (rest ≡ Some (decimal n))
+-- What stands behind a name that takes these numbers: each of them printed, a space between two.
+abbrev pub spaced : List ℕ → Option (List ℕ)
+spaced [] = None
+spaced (n ∷ ns) = Some (decimal n ++ behind 32 (spaced ns))
 
-abbrev pub Two : Option (List ℕ) → ℕ × ℕ → Type 0
-Two rest p = (p.0 < 65536) × (p.1 < 65536) × (rest ≡ Some (pair_text p.0 p.1))
-
-abbrev pub Three : Option (List ℕ) → ℕ × ℕ × ℕ → Type 0
-Three rest t = (t.0 < 65536) × (t.1 < 65536) × (t.2 < 65536) × (rest ≡ Some (three_text t.0 t.1 t.2))
+-- So many numbers of two bytes stand behind a name.
+pub record Numbers (count : ℕ) (rest : Option (List ℕ)) (ns : List ℕ) : Type 0 where
+  pub many : length ns ≡ count
+  pub small : AllByRecursion (λ n. n < 65536) ns
+  pub text : rest ≡ spaced ns

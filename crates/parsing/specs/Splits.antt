@@ -1,5 +1,6 @@
 -- Bytes parted at a mark, and bytes that all lie in a range. Assumes nothing.
-use Rattle.std.specs.Prelude.{ℕ, Bool, true, cond, ◌&&◌, List, [], ◌∷◌, Some, None, Option, ◌==◌, nat_le}
+use Rattle.std.specs.Prelude.{ℕ, Bool, cond, ◌&&◌, List, [], ◌∷◌, Some, None, Option, ◌==◌, nat_le}
+use Rattle.std.specs.List.{list_all}
 use Rattle.std.specs.Option.{option_map}
 use Rattle.parsing.specs.declared.split.Parts.{Parts}
 
@@ -24,5 +25,4 @@ back p = option_map (λ b. b.now) p.back
 
 -- Each byte lies from the low one to the high one.
 abbrev pub within : ℕ → ℕ → List ℕ → Bool
-within low high [] = true
-within low high (byte ∷ bytes) = (nat_le low byte && nat_le byte high) && within low high bytes
+within low high bytes = list_all (λ byte. nat_le low byte && nat_le byte high) bytes

@@ -1,10 +1,12 @@
 // The names that a line can begin with.
-ghost use Rattle.std.specs.Prelude.{◌≡◌, MatchOption, ◌≢◌};
+ghost use Rattle.std.specs.Prelude.{◌≡◌, ◌≢◌, Some, MatchResult};
 ghost use Rattle.parsing.specs.Names.{spelled};
 
+use crate::reason::Reason;
+use listing::text::Printable;
 use std::fmt;
 
-#[derive(Clone, Copy)]
+#[derive(Clone, Copy, PartialEq, Eq, Debug)]
 pub enum Name {
     Start,
     Post,
@@ -18,36 +20,43 @@ pub enum Name {
 }
 
 // The name that the word spells, if it spells one.
-pub fn named(word: &[u8]) -> Option<Name>
-    ensures { MatchOption result ((n : Name) → word.now ≢ spelled n) (λ n. word.now ≡ spelled n) }
-{
-    match word {
-        b"start" => Some(Name::Start),
-        b"post" => Some(Name::Post),
-        b"get" => Some(Name::Get),
-        b"off" => Some(Name::Off),
-        b"on" => Some(Name::On),
-        b"release" => Some(Name::Release),
-        b"seat" => Some(Name::Seat),
-        b"mend" => Some(Name::Mend),
-        b"note" => Some(Name::Note),
-        _ => None,
+impl<'a> TryFrom<&'a [u8]> for Name {
+    ghost use Rattle.parsing.specs.declared.name.Name.{Name};
+
+    type Error = Reason<'a>;
+
+    ghost try_from_gives = { λ word r. MatchResult r (λ name. word.now ≡ spelled name) (λ _. (name : Name) → word.now ≢ spelled name) };
+
+    fn try_from(word: &'a [u8]) -> Result<Name, Reason<'a>> {
+        match word {
+            b"start" => Ok(Name::Start),
+            b"post" => Ok(Name::Post),
+            b"get" => Ok(Name::Get),
+            b"off" => Ok(Name::Off),
+            b"on" => Ok(Name::On),
+            b"release" => Ok(Name::Release),
+            b"seat" => Ok(Name::Seat),
+            b"mend" => Ok(Name::Mend),
+            b"note" => Ok(Name::Note),
+            _ => Err(Reason::NoCall(Printable(word))),
+        }
     }
 }
 
-// What stands behind the name.
 impl fmt::Display for Name {
+    ghost output = { λ name. Some (spelled name) };
+
     fn fmt<W: fmt::Write>(&self, f: &mut fmt::Formatter<W>) -> fmt::Result {
-        match self {
-            Name::Start => write!(f, "start takes 3 numbers"),
-            Name::Post => write!(f, "post takes 3 numbers"),
-            Name::Get => write!(f, "get takes 2 numbers"),
-            Name::Off => write!(f, "off takes 1 number"),
-            Name::On => write!(f, "on takes 1 number"),
-            Name::Release => write!(f, "release takes 1 number"),
-            Name::Seat => write!(f, "seat takes no number"),
-            Name::Mend => write!(f, "mend takes 1 number"),
-            Name::Note => write!(f, "a note has 1 to 60 characters"),
-        }
+        f.write_str(match self {
+            Name::Start => "start",
+            Name::Post => "post",
+            Name::Get => "get",
+            Name::Off => "off",
+            Name::On => "on",
+            Name::Release => "release",
+            Name::Seat => "seat",
+            Name::Mend => "mend",
+            Name::Note => "note",
+        })
     }
 }

@@ -7,8 +7,8 @@ ghost use Rattle.parsing.specs.Names.{spelled};
 ghost use Rattle.parsing.specs.Numbers.{Settles, seen};
 ghost use Rattle.parsing.specs.Splits.{behind};
 
-use crate::name::{Name, named};
-use crate::number::{one, three, two};
+use crate::name::Name;
+use crate::number::numbers;
 use crate::reason::Reason;
 use crate::split::{Parts, split};
 use crate::within::all_within;
@@ -37,7 +37,7 @@ fn frame_of<'a>(name: Name, rest: Option<&'a [u8]>) -> Result<Frame<'a>, Reason<
 {
     match name {
         Name::Start => {
-            let (items, lines, field) = three(name, rest)?;
+            let [items, lines, field] = numbers::<3>(name, rest)?;
             Ok(Frame::Start {
                 items,
                 lines,
@@ -45,29 +45,29 @@ fn frame_of<'a>(name: Name, rest: Option<&'a [u8]>) -> Result<Frame<'a>, Reason<
             })
         }
         Name::Post => {
-            let (item, line, word) = three(name, rest)?;
+            let [item, line, word] = numbers::<3>(name, rest)?;
             Ok(Frame::Call(Call::Post { item, line, word }))
         }
         Name::Get => {
-            let (item, line) = two(name, rest)?;
+            let [item, line] = numbers::<2>(name, rest)?;
             Ok(Frame::Call(Call::Get { item, line }))
         }
         Name::Off => {
-            let bay = one(name, rest)?;
+            let [bay] = numbers::<1>(name, rest)?;
             Ok(Frame::Call(Call::Off { bay }))
         }
         Name::On => {
-            let bay = one(name, rest)?;
+            let [bay] = numbers::<1>(name, rest)?;
             Ok(Frame::Call(Call::On { bay }))
         }
         Name::Release => {
-            let bay = one(name, rest)?;
+            let [bay] = numbers::<1>(name, rest)?;
             Ok(Frame::Call(Call::Release { bay }))
         }
         Name::Seat if rest.is_some() => Err(Reason::Takes(name)),
         Name::Seat => Ok(Frame::Call(Call::Seat)),
         Name::Mend => {
-            let bay = one(name, rest)?;
+            let [bay] = numbers::<1>(name, rest)?;
             Ok(Frame::Call(Call::Mend { bay }))
         }
         Name::Note => Ok(Frame::Note(note(rest)?)),
@@ -79,8 +79,5 @@ pub fn parse<'a>(line: &'a [u8]) -> Result<Frame<'a>, Reason<'a>>
     ensures { Settles (seen content result) (Says line.now) }
 {
     let Parts { front, back } = split(line, b' ');
-    let Some(name) = named(front) else {
-        return Err(Reason::NoCall(front));
-    };
-    frame_of(name, back)
+    frame_of(Name::try_from(front)?, back)
 }

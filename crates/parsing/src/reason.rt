@@ -2,38 +2,42 @@
 use crate::name::Name;
 use listing::text::Printable;
 use std::fmt;
+use thiserror::Error;
 
-#[derive(Clone, Copy)]
+#[derive(Clone, Copy, Debug, Error)]
 pub enum Reason<'a> {
     // The first word is no name of a call.
-    NoCall(&'a [u8]),
+    #[error("\"{0}\" is no call")]
+    NoCall(Printable<'a>),
     // The name is not followed by what it takes.
+    #[error("{}", Needs(*.0))]
     Takes(Name),
     // The field is no number as numbers are printed.
-    NoNumber(&'a [u8]),
+    #[error("\"{0}\" is no number")]
+    NoNumber(Printable<'a>),
     // The number needs more than two bytes.
-    TooLarge(&'a [u8]),
+    #[error("{0} is above 65535")]
+    TooLarge(Printable<'a>),
     // A character of a note is not a printable one.
+    #[error("a note has characters from 32 to 126 only")]
     NoteText,
 }
 
-impl fmt::Display for Reason<'_> {
+// What a name is followed by.
+#[derive(Clone, Copy)]
+struct Needs(Name);
+
+impl fmt::Display for Needs {
     fn fmt<W: fmt::Write>(&self, f: &mut fmt::Formatter<W>) -> fmt::Result {
-        match self {
-            Reason::NoCall(word) => {
-                let word = Printable(*word);
-                write!(f, "\"{word}\" is no call")
+        let name = self.0;
+        match name {
+            Name::Start | Name::Post => write!(f, "{name} takes 3 numbers"),
+            Name::Get => write!(f, "{name} takes 2 numbers"),
+            Name::Off | Name::On | Name::Release | Name::Mend => {
+                write!(f, "{name} takes 1 number")
             }
-            Reason::Takes(name) => write!(f, "{name}"),
-            Reason::NoNumber(field) => {
-                let field = Printable(*field);
-                write!(f, "\"{field}\" is no number")
-            }
-            Reason::TooLarge(field) => {
-                let field = Printable(*field);
-                write!(f, "{field} is above 65535")
-            }
-            Reason::NoteText => write!(f, "a note has characters from 32 to 126 only"),
+            Name::Seat => write!(f, "{name} takes no number"),
+            Name::Note => write!(f, "a note has 1 to 60 characters"),
         }
     }
 }

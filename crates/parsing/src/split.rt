@@ -13,16 +13,14 @@ pub fn split<'a>(bytes: &'a [u8], mark: u8) -> Parts<'a>
     ensures front { result.front.now ≡ front_of mark bytes.now }
     ensures back { behind result ≡ back_of mark bytes.now }
 {
-    for (i, byte) in bytes.iter().enumerate() {
-        if *byte == mark {
-            return Parts {
-                front: &bytes[..i],
-                back: Some(&bytes[i + 1..]),
-            };
-        }
-    }
-    Parts {
-        front: bytes,
-        back: None,
+    match bytes.iter().position(|byte| *byte == mark) {
+        Some(i) => Parts {
+            front: &bytes[..i],
+            back: Some(&bytes[i + 1..]),
+        },
+        None => Parts {
+            front: bytes,
+            back: None,
+        },
     }
 }

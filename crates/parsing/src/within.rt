@@ -6,10 +6,5 @@ ghost use Rattle.parsing.specs.Splits.{within};
 pub(crate) fn all_within(bytes: &[u8], low: u8, high: u8) -> bool
     ensures { result ≡ within low high bytes.now }
 {
-    for byte in bytes {
-        if *byte < low || high < *byte {
-            return false;
-        }
-    }
-    true
+    bytes.iter().all(|byte| low <= *byte && *byte <= high)
 }
