@@ -4,7 +4,7 @@
 use anyhow::anyhow;
 use std::io::{Read, Write};
 
-fn run(rt: &HostRuntime) -> anyhow::Result<()> {
+fn main(rt: HostRuntime) -> anyhow::Result<()> {
     let mut text = Vec::new(rt.alloc());
     rt.stdin().read_to_end(&mut text)?;
     match composing::compose(rt.alloc(), text.as_slice()) {
@@ -14,8 +14,4 @@ fn run(rt: &HostRuntime) -> anyhow::Result<()> {
             Err(anyhow!("no round file was written"))
         }
     }
-}
-
-fn main(rt: HostRuntime) -> anyhow::Result<()> {
-    run(&rt)
 }

@@ -1,35 +1,22 @@
 -- What the loop over the lines of a text keeps. Assumes nothing.
-use Rattle.std.proofs.Common.{◌≡◌, ℕ, ◌+◌, ◌<◌, ◌≤◌, Bool, true, false, cond, not, eqb, List, [], ◌∷◌, ◌++◌, map, length, Some, None, Ok, Option, sym, refl, ap, ◌∙◌, subst, append_assoc, append-nil, arith, length-append}
+use Rattle.std.proofs.Common.{◌≡◌, ℕ, ◌+◌, ◌<◌, ◌≤◌, true, false, cond, not, List, [], ◌∷◌, ◌++◌, map, length, take, get_or, Some, None, Ok, Bor, Option, sym, refl, ap, ◌∙◌, subst, append-nil, arith}
 use Rattle.std.proofs.lemmas.List.Elements.{filter-append}
 use Rattle.std.proofs.ByRecursion.{All-push}
-use Rattle.std.proofs.lemmas.List.{length_push, map_push, flat_map_more}
+use Rattle.std.proofs.lemmas.List.{length-map, map_push, flat_map_more}
 use Rattle.std.proofs.lemmas.Bool.Decides.{nat_tests}
-use Rattle.std.specs.List.{flat_map, AllByRecursion}
+use Rattle.std.specs.List.{flat_map, enumerate_from, AllByRecursion}
 use Rattle.std.specs.Option.{ok_or}
+use Rattle.std.specs.Iterator.{Yields}
+use Rattle.std.proofs.lemmas.Iterator.{YieldsList}
+use Rattle.std.proofs.lemmas.Iterator.Consumers.{YieldsList-so_far, YieldsList-turn, YieldsList-end}
 use Rattle.fault.specs.declared.fault.FileFault.TheVariants.{BodyLength}
 use Rattle.frame.specs.Format.{Content, start, call, note, unknown, kind_of, body_of, bytes_of, proper}
 use Rattle.listing.specs.Text.{says}
 use Rattle.frame.specs.Laid.{Laid, ended, frame, Answered}
 use Rattle.frame.proofs.Laws.{meant_back, laid_same}
 use Rattle.parsing.specs.Line.{Sayable, Says}
-use Rattle.parsing.specs.Splits.{front_of, back_of, behind}
-use Rattle.parsing.proofs.Parting.{parts_whole}
 use Rattle.parsing.proofs.Telling.{says_only}
-use Rattle.composing.specs.Composed.{onto, lines_of, silent, kept, Told, Composed, Reached, Bad, Overlong}
-
--- The lines that are left.
-abbrev lines_after : Option (List ℕ) → List (List ℕ)
-lines_after None = []
-lines_after (Some text) = lines_of text
-
-lines_split : (text : List ℕ) → lines_of text ≡ front_of 10 text ∷ lines_after (back_of 10 text)
-lines_split [] = refl
-lines_split (byte ∷ bytes) = by (eqb byte 10) (lines_split bytes)
-  where
-    by : (b : Bool) → lines_of bytes ≡ front_of 10 bytes ∷ lines_after (back_of 10 bytes)
-        → cond b ([] ∷ lines_of bytes) (onto byte (lines_of bytes)) ≡ cond b [] (byte ∷ front_of 10 bytes) ∷ lines_after (cond b (Some bytes) (back_of 10 bytes))
-    by true more = refl
-    by false more = ap (onto byte) more
+use Rattle.composing.specs.Composed.{lines_of, silent, kept, Told, Composed, Reached, Bad, Overlong}
 
 -- A frame that a line says can stand in a file.
 sayable_proper : (c : Content) → Sayable c → proper c ≡ true
@@ -61,65 +48,83 @@ texts_same (c ∷ contents) (d ∷ others) e s t =
     let same = says_only (says c) d c (record { sayable = t.0; text = first }) (record { sayable = s.0; text = refl }) in
     λ i. same i ∷ texts_same contents others more s.1 t.1 i
 
--- After some lines: their frames, and the lines that are left.
-pub record Turn (text file : List ℕ) (number : ℕ) (rest : Option (List ℕ)) : Type 0 where
-  pub seen : List (List ℕ)
-  pub whole : lines_of text ≡ seen ++ lines_after rest
-  pub count : number ≡ length seen
-  pub few : number + length (behind 10 rest) ≤ length text + 1
+-- The lines with their places: those before this one, this one, and what is left.
+pub numbered : (n : ℕ) (lines : List (List ℕ)) (before : List (ℕ × List ℕ)) (place : ℕ) (line : List ℕ)
+    → before ≡ take (length before) (enumerate_from n lines) → length before < length (enumerate_from n lines)
+    → (place, line) ≡ get_or (enumerate_from n lines) (length before) (place, line)
+    → (place ≡ n + length before) × (after : List (List ℕ)) × (lines ≡ map (λ p. p.1) before ++ (line ∷ after))
+numbered n [] before place line t less e = absurd (omega arith)
+numbered n (l ∷ lines) [] place line t less e = (omega (arith, ap (λ (p : ℕ × List ℕ). p.0) e), lines, λ i. sym (ap (λ (p : ℕ × List ℕ). p.1) e) i ∷ lines)
+numbered n (l ∷ lines) (p ∷ before) place line t less e =
+    let first : p ≡ (n, l) = cc in
+    let more : before ≡ take (length before) (enumerate_from (n + 1) lines) = cc in
+    let rest = numbered (n + 1) lines before place line more (omega arith) e in
+    (omega (arith, rest.0), rest.1, λ i. sym (ap (λ (q : ℕ × List ℕ). q.1) first) i ∷ rest.2 i)
+
+pub unnumbered : (n : ℕ) (lines : List (List ℕ)) → map (λ p. p.1) (enumerate_from n lines) ≡ lines
+unnumbered n [] = refl
+unnumbered n (l ∷ lines) = ap (λ (ls : List (List ℕ)). l ∷ ls) (unnumbered (n + 1) lines)
+
+-- The lines that a loop has been given, with their places, and alone.
+abbrev pub placed : List (ℕ × Bor (List ℕ)) → List (ℕ × List ℕ)
+placed items = map (λ (p : ℕ × Bor (List ℕ)). (p.0, p.1.now)) items
+
+abbrev pub seen_in : List (ℕ × Bor (List ℕ)) → List (List ℕ)
+seen_in items = map (λ (p : ℕ × List ℕ). p.1) (placed items)
+
+pub seen_in_more : (items : List (ℕ × Bor (List ℕ))) (item : ℕ × Bor (List ℕ)) → seen_in (items ++ (item ∷ [])) ≡ seen_in items ++ (item.1.now ∷ [])
+seen_in_more items item = ap (map (λ (p : ℕ × List ℕ). p.1)) (map_push (λ (p : ℕ × Bor (List ℕ)). (p.0, p.1.now)) items item) ∙ map_push (λ (p : ℕ × List ℕ). p.1) (placed items) (item.0, item.1.now)
+
+-- The iterator yields the lines of the text with their places.
+abbrev pub Road : {S : Type 0} → (S → Option (ℕ × Bor (List ℕ)) → S → Type 0) → S → List ℕ → Type 0
+Road steps s text = YieldsList {A = ℕ × Bor (List ℕ)} {B = ℕ × List ℕ} steps (λ p. (p.0, p.1.now)) s (enumerate_from 0 (lines_of text))
+
+module _ {S : Type 0} {steps : S → Option (ℕ × Bor (List ℕ)) → S → Type 0} {s : S} (text : List ℕ) (road : Road steps s text) (items : List (ℕ × Bor (List ℕ))) (t : S) (y : Yields steps s items t) (r : Option (ℕ × Bor (List ℕ))) (u : S) (step : steps t r u) where
+  pub here : (before : ℕ) (line : Bor (List ℕ)) → r ≡ Some (before, line) → (before ≡ length (seen_in items)) × (after : List (List ℕ)) × (lines_of text ≡ seen_in items ++ (line.now ∷ after))
+  here before line is =
+      let turn = YieldsList-turn road items t y r u (before, line) is step in
+      let sofar = YieldsList-so_far road items t y in
+      let long : length (placed items) ≡ length items = simp length-map in
+      let many : length (seen_in items) ≡ length (placed items) = simp length-map in
+      let found = numbered 0 (lines_of text) (placed items) before line.now
+      (sofar ∙ ap (λ n. take n (enumerate_from 0 (lines_of text))) (sym long))
+      (omega (arith, long, turn.0))
+      (turn.1 ∙ ap (λ n. get_or (enumerate_from 0 (lines_of text)) n (before, line.now)) (sym long)) in
+      (omega (arith, found.0, many), found.1, found.2)
+
+  pub all_seen : r ≡ None → seen_in items ≡ lines_of text
+  all_seen is = ap (map (λ (p : ℕ × List ℕ). p.1)) (YieldsList-end road items t y r u is step).0 ∙ unnumbered 0 (lines_of text)
+
+-- After some lines: their frames, and the file so far.
+pub record Turn (seen : List (List ℕ)) (file : List ℕ) : Type 0 where
   pub contents : List Content
   pub told : Told seen contents
   pub bytes : file ≡ flat_map bytes_of contents
   pub short : length file ≤ 32768
 
-pub turn_none : (text file : List ℕ) → file ≡ [] → Turn text file 0 (Some text)
-turn_none text file e = record {
-  seen = [];
-  whole = refl;
-  count = refl;
-  few = omega arith;
-  contents = [];
-  told = record { texts = refl; sayable = tt };
-  bytes = e;
-  short = omega (arith, ap length e);
-}
+pub turn_none : (file : List ℕ) → file ≡ [] → Turn [] file
+turn_none file e = record { contents = []; told = record { texts = refl; sayable = tt }; bytes = e; short = omega (arith, ap length e) }
 
-pub turn_end : {text file : List ℕ} {number : ℕ} {rest : Option (List ℕ)} → Turn text file number rest → rest ≡ None → Composed text file
-turn_end {text} {file} {number} {rest} turn is =
-    let told = subst (λ (ls : List (List ℕ)). Told ls turn.contents) (sym (turn.whole ∙ ap (λ r. turn.seen ++ lines_after r) is ∙ append-nil turn.seen)) turn.told in
+pub turn_end : {text file : List ℕ} {seen : List (List ℕ)} → Turn seen file → seen ≡ lines_of text → Composed text file
+turn_end turn is =
+    let told = subst (λ (ls : List (List ℕ)). Told ls turn.contents) is turn.told in
     record {
       contents = turn.contents;
       told = told;
       only = λ others t. texts_same turn.contents others (sym told.texts ∙ t.texts) told.sayable t.sayable;
-      answered = answered_all file turn.contents turn.bytes turn.told.sayable;
+      answered = answered_all _ turn.contents turn.bytes turn.told.sayable;
       short = turn.short;
     }
 
--- One line, and what is left behind it.
-module _ {text file : List ℕ} {number : ℕ} {rest : Option (List ℕ)} (turn : Turn text file number rest) (left line : List ℕ) (back : Option (List ℕ)) (is : rest ≡ Some left) (f : line ≡ front_of 10 left) (b : back ≡ back_of 10 left) where
-  whole_more : lines_of text ≡ turn.seen ++ (line ∷ lines_after back)
-  whole_more = turn.whole ∙ ap (λ r. turn.seen ++ lines_after r) is ∙ ap (λ (ls : List (List ℕ)). turn.seen ++ ls) (lines_split left ∙ sym (λ i. f i ∷ lines_after (b i)))
-
-  less : length (behind 10 back) + length line ≡ length left
-  less = sym (ap length (parts_whole 10 left ∙ sym (λ i. f i ++ behind 10 (b i))) ∙ length-append line (behind 10 back) ∙ omega arith)
-
-  few_more : number + 1 + length (behind 10 back) ≤ length text + 1
-  few_more = omega (arith, turn.few, less, ap (λ r. length (behind 10 r)) is)
-
-  pub shrinks : length (behind 10 back) < length (behind 10 rest)
-  shrinks = omega (arith, less, ap (λ r. length (behind 10 r)) is)
-
-  pub turn_quiet : silent line ≡ true → Turn text file (number + 1) back
+-- One line more.
+module _ {file : List ℕ} {seen : List (List ℕ)} (turn : Turn seen file) (line : List ℕ) where
+  pub turn_quiet : silent line ≡ true → Turn (seen ++ (line ∷ [])) file
   turn_quiet quiet = record {
-    seen = turn.seen ++ (line ∷ []);
-    whole = whole_more ∙ sym (append_assoc turn.seen (line ∷ []) (lines_after back));
-    count = omega (arith, turn.count, length_push turn.seen line);
-    few = few_more;
     contents = turn.contents;
     told = record {
-      texts = filter-append (λ l. not (silent l)) turn.seen (line ∷ [])
-          ∙ ap (λ t. kept turn.seen ++ cond (not t) (line ∷ []) []) quiet
-          ∙ append-nil (kept turn.seen) ∙ turn.told.texts;
+      texts = filter-append (λ l. not (silent l)) seen (line ∷ [])
+          ∙ ap (λ t. kept seen ++ cond (not t) (line ∷ []) []) quiet
+          ∙ append-nil (kept seen) ∙ turn.told.texts;
       sayable = turn.told.sayable;
     };
     bytes = turn.bytes;
@@ -127,35 +132,12 @@ module _ {text file : List ℕ} {number : ℕ} {rest : Option (List ℕ)} (turn 
   }
 
   module _ (loud : silent line ≡ false) where
-    abbrev reached : Reached text (number + 1)
-    reached = record {
-      before = turn.seen;
-      line = line;
-      after = lines_after back;
-      whole = whole_more;
-      count = omega (arith, turn.count);
-      loud = loud;
-      contents = turn.contents;
-      told = turn.told;
-      room = omega (arith, turn.short, ap length turn.bytes);
-    }
-
-    pub turn_bad : ((c : Content) → Says line c → ⊥) → Bad text (number + 1)
-    turn_bad bad = record { reached = reached; bad = bad }
-
-    pub turn_overlong : (c : Content) → Says line c → 32768 < length file + length (bytes_of c) → Overlong text (number + 1)
-    turn_overlong c s long = record { reached = reached; content = c; says = s; long = omega (arith, long, ap length turn.bytes) }
-
-    pub turn_more : (c : Content) (file' : List ℕ) → Says line c → file' ≡ file ++ bytes_of c → length file' ≤ 32768 → Turn text file' (number + 1) back
+    pub turn_more : (c : Content) (file' : List ℕ) → Says line c → file' ≡ file ++ bytes_of c → length file' ≤ 32768 → Turn (seen ++ (line ∷ [])) file'
     turn_more c file' s pushed short = record {
-      seen = turn.seen ++ (line ∷ []);
-      whole = whole_more ∙ sym (append_assoc turn.seen (line ∷ []) (lines_after back));
-      count = omega (arith, turn.count, length_push turn.seen line);
-      few = few_more;
       contents = turn.contents ++ (c ∷ []);
       told = record {
-        texts = filter-append (λ l. not (silent l)) turn.seen (line ∷ [])
-            ∙ ap (λ t. kept turn.seen ++ cond (not t) (line ∷ []) []) loud
+        texts = filter-append (λ l. not (silent l)) seen (line ∷ [])
+            ∙ ap (λ t. kept seen ++ cond (not t) (line ∷ []) []) loud
             ∙ (λ i. turn.told.texts i ++ (s.text i ∷ []))
             ∙ sym (map_push says turn.contents c);
         sayable = All-push Sayable turn.contents c turn.told.sayable s.sayable;
@@ -163,3 +145,23 @@ module _ {text file : List ℕ} {number : ℕ} {rest : Option (List ℕ)} (turn 
       bytes = pushed ∙ ap (λ (l : List ℕ). l ++ bytes_of c) turn.bytes ∙ flat_map_more bytes_of [] turn.contents c;
       short = short;
     }
+
+    module _ (text : List ℕ) (number : ℕ) (after : List (List ℕ)) (whole : lines_of text ≡ seen ++ (line ∷ after)) (count : number ≡ length seen + 1) where
+      abbrev reached : Reached text number
+      reached = record {
+        before = seen;
+        line = line;
+        after = after;
+        whole = whole;
+        count = count;
+        loud = loud;
+        contents = turn.contents;
+        told = turn.told;
+        room = omega (arith, turn.short, ap length turn.bytes);
+      }
+
+      pub turn_bad : ((c : Content) → Says line c → ⊥) → Bad text number
+      turn_bad bad = record { reached = reached; bad = bad }
+
+      pub turn_overlong : (c : Content) → Says line c → 32768 < length file + length (bytes_of c) → Overlong text number
+      turn_overlong c s long = record { reached = reached; content = c; says = s; long = omega (arith, long, ap length turn.bytes) }

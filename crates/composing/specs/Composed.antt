@@ -1,6 +1,6 @@
 -- A round that is written as text, and the round file of its calls. Assumes nothing.
-use Rattle.std.specs.Prelude.{◌≡◌, ℕ, ◌+◌, ◌<◌, ◌≤◌, Bool, true, false, cond, not, List, [], ◌∷◌, ◌++◌, map, length, Ok, Err, vec_items, filter, Result, Vec, ◌==◌}
-use Rattle.std.specs.List.{flat_map, AllByRecursion}
+use Rattle.std.specs.Prelude.{◌≡◌, ℕ, ◌+◌, ◌<◌, ◌≤◌, Bool, true, false, not, List, [], ◌∷◌, ◌++◌, map, length, Ok, Err, vec_items, filter, Result, Vec, ◌==◌}
+use Rattle.std.specs.List.{flat_map, slice_split, AllByRecursion}
 use Rattle.std.specs.declared.alloc.Global.{Global}
 use Rattle.frame.specs.Format.{Content, bytes_of}
 use Rattle.listing.specs.Text.{says}
@@ -10,13 +10,8 @@ use Rattle.composing.specs.declared.ComposeError.{ComposeError}
 use Rattle.composing.specs.declared.ComposeError.TheVariants.{Line, TooLong, Memory}
 
 -- The lines of a text: byte 10 stands between them.
-abbrev pub onto : ℕ → List (List ℕ) → List (List ℕ)
-onto byte [] = (byte ∷ []) ∷ []
-onto byte (line ∷ lines) = (byte ∷ line) ∷ lines
-
 abbrev pub lines_of : List ℕ → List (List ℕ)
-lines_of [] = [] ∷ []
-lines_of (byte ∷ bytes) = cond (byte == 10) ([] ∷ lines_of bytes) (onto byte (lines_of bytes))
+lines_of text = slice_split (λ byte. byte == 10) text
 
 -- An empty line says nothing, and neither does a comment, which begins with `#`.
 abbrev pub silent : List ℕ → Bool

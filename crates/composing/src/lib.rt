@@ -9,31 +9,21 @@ use frame::encode::encode;
 use input::LONGEST_FILE;
 use parsing::parse::parse;
 use parsing::reason::Reason;
-use parsing::split::{Parts, split};
 use std::alloc::{AllocError, Global};
-use std::fmt;
+use thiserror::Error;
 
 // Why a text is not made into a round file.
-#[derive(Clone, Copy)]
+#[derive(Clone, Copy, Debug, Error)]
 pub enum ComposeError<'a> {
     // The line, counted from 1, is no text of a frame.
+    #[error("line {number}: {reason}")]
     Line { number: usize, reason: Reason<'a> },
     // With the frame of this line the file is longer than a round file may be.
+    #[error("line {number}: the round file has more than 32768 bytes")]
     TooLong { number: usize },
     // There is no memory for the bytes.
+    #[error("no memory")]
     Memory,
-}
-
-impl fmt::Display for ComposeError<'_> {
-    fn fmt<W: fmt::Write>(&self, f: &mut fmt::Formatter<W>) -> fmt::Result {
-        match self {
-            ComposeError::Line { number, reason } => write!(f, "line {number}: {reason}"),
-            ComposeError::TooLong { number } => {
-                write!(f, "line {number}: the round file has more than 32768 bytes")
-            }
-            ComposeError::Memory => write!(f, "no memory"),
-        }
-    }
 }
 
 impl<'a> From<AllocError> for ComposeError<'a> {
@@ -59,17 +49,14 @@ pub fn compose<'a>(heap: Global, text: &'a [u8]) -> Result<Vec<u8>, ComposeError
     ensures { Answers text.now result }
 {
     let mut file = Vec::new(heap);
-    let mut number = 0;
-    let mut rest = Some(text);
-    while let Some(left) = rest {
-        let Parts { front: line, back } = split(left, b'\n');
-        rest = back;
-        number += 1;
+    for (before, line) in text.split(|byte| *byte == b'\n').enumerate() {
         if is_silent(line) {
             continue;
         }
+        let number = before + 1;
         match parse(line) {
             Ok(frame) => {
+                // What a line says can always be written, so only memory can be wanting here.
                 let Ok(bytes) = encode(heap, frame) else {
                     return Err(ComposeError::Memory);
                 };
