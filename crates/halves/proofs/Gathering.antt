@@ -1,5 +1,5 @@
 -- All runs of a list of words, gathered in place by exclusive or: the places of sets, and the step from 2^m words to 2^(m + 1). Assumes nothing.
-use Rattle.std.proofs.Common.{◌≡◌, ℕ, zero, suc, ◌+◌, ◌-◌, ◌^◌, ◌<◌, ◌≤◌, Bool, true, false, cond, eqb, List, ◌++◌, length, get_or, take, drop, sym, refl, ap, ◌∙◌, ap₂, arith, get_or-drop, get_or-take, eq-eqb, ne_eqb}
+use Rattle.std.proofs.Common.{◌≡◌, ℕ, zero, suc, ◌+◌, ◌-◌, ◌^◌, ◌<◌, ◌≤◌, Bool, true, false, cond, eqb, List, ◌++◌, length, get_or, sym, refl, ap, ◌∙◌, ap₂, arith, eq-eqb, ne_eqb}
 use native.Mathlib.Decide.{ℕ_discrete}
 use lib.Bits.{bit_xor, xor_assoc, xor_comm}
 use Rattle.std.proofs.lemmas.List.{get_or_append_left, get_or-append-add}
@@ -133,29 +133,26 @@ pub gathered_word : (most : ℕ) (words : List ℕ) → Gathered 0 most words wo
 unfolding place run_by
 gathered_word most words set h = refl
 
--- Twice as many words: the sums of the upper half by itself stand in the upper half of `added`, and `low` has those of the halves added.
-module _ (m most : ℕ) (words added low : List ℕ) where
+-- Twice as many words: `lower` has the halves added, `low` has its sums, and `high` those of the upper half by itself.
+module _ (m most : ℕ) (words lower low high : List ℕ) where
   pub gathered_more : length low ≡ 2 ^ m
-      → ((i : ℕ) → i < 2 ^ m → get_or added i 0 ≡ bit_xor (get_or words i 0) (get_or words (2 ^ m + i) 0))
-      → ((set : ℕ → Bool) → count set m < most → get_or added (2 ^ m + place set m) 0 ≡ run_by bit_xor set m (λ i. get_or words (2 ^ m + i) 0))
-      → Gathered m most (take (2 ^ m) added) low
-      → Gathered (suc m) most words (low ++ drop (2 ^ m) added)
+      → ((i : ℕ) → i < 2 ^ m → get_or lower i 0 ≡ bit_xor (get_or words i 0) (get_or words (2 ^ m + i) 0))
+      → ((set : ℕ → Bool) → count set m < most → get_or high (place set m) 0 ≡ run_by bit_xor set m (λ i. get_or words (2 ^ m + i) 0))
+      → Gathered m most lower low
+      → Gathered (suc m) most words (low ++ high)
   unfolding place run_by count
-  gathered_more long sums high lows set few = go (set m) few
+  gathered_more long sums highs lows set few = go (set m) few
     where
       -- the sums of the halves added
-      both : run_by bit_xor set m (λ i. get_or (take (2 ^ m) added) i 0)
+      both : run_by bit_xor set m (λ i. get_or lower i 0)
           ≡ bit_xor (run_by bit_xor set m (λ i. get_or words i 0)) (run_by bit_xor set m (λ i. get_or words (2 ^ m + i) 0))
       both =
-          run_by_ext bit_xor set m (λ i. get_or (take (2 ^ m) added) i 0) (λ i. bit_xor (get_or words i 0) (get_or words (2 ^ m + i) 0))
-          (λ i l. get_or-take (2 ^ m) added i 0 l ∙ sums i l)
+          run_by_ext bit_xor set m (λ i. get_or lower i 0) (λ i. bit_xor (get_or words i 0) (get_or words (2 ^ m + i) 0)) sums
           ∙ run_sum set m (λ i. get_or words i 0) (λ i. get_or words (2 ^ m + i) 0)
 
-      go : (t : Bool) → cond t 1 0 + count set m ≤ most → get_or (low ++ drop (2 ^ m) added) (cond t (2 ^ m + place set m) (place set m)) 0
+      go : (t : Bool) → cond t 1 0 + count set m ≤ most → get_or (low ++ high) (cond t (2 ^ m + place set m) (place set m)) 0
           ≡ cond t (run_by bit_xor set m (λ i. get_or words (2 ^ m + i) 0))
           (bit_xor (run_by bit_xor set m (λ i. get_or words i 0)) (run_by bit_xor set m (λ i. get_or words (2 ^ m + i) 0)))
       go true h =
-          ap (λ n. get_or (low ++ drop (2 ^ m) added) (n + place set m) 0) (sym long) ∙ get_or-append-add low (drop (2 ^ m) added) (place set m) 0
-          ∙ get_or-drop (2 ^ m) added (place set m) 0 ∙ high set (omega arith)
-      go false h =
-          get_or_append_left low (drop (2 ^ m) added) 0 (place set m) (omega (arith, place_lt set m)) ∙ lows set (omega arith) ∙ both
+          ap (λ n. get_or (low ++ high) (n + place set m) 0) (sym long) ∙ get_or-append-add low high (place set m) 0 ∙ highs set (omega arith)
+      go false h = get_or_append_left low high 0 (place set m) (omega (arith, place_lt set m)) ∙ lows set (omega arith) ∙ both

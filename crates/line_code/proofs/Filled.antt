@@ -1,25 +1,15 @@
 -- Lists that are filled place by place, and the padded line. Assumes nothing.
-use Rattle.std.proofs.Common.{◌≡◌, ℕ, ◌+◌, ◌-◌, ◌^◌, ◌<◌, ◌≢◌, List, ◌++◌, length, get_or, take, drop, set, replicate, sym, refl, ap, ◌∙◌, subst, ap₂, arith, get_or-set_other, get_or-take, get_or-set_same, below_more}
+use Rattle.std.proofs.Common.{◌≡◌, ℕ, ◌-◌, ◌^◌, ◌<◌, List, ◌++◌, length, get_or, take, drop, set, replicate, sym, refl, ap, ◌∙◌, subst, ap₂, arith, get_or-take}
 use native.Mathlib.Decide.{dec_lt}
 use lib.Bits.{bit_xor}
 use lib.ListN.{get_or-replicate, length-replicate}
 use Rattle.std.proofs.lemmas.List.{drop-replicate, get_or_append_left, get_or-append_right, get_or_past}
 use Rattle.halves.specs.Gathered.{Gathered}
 use Rattle.halves.proofs.Halving.{run_by_ext}
-use Rattle.line_code.specs.Weighed.{Below, padded}
-use Rattle.line_code.proofs.Halfway.{below_take}
+use Rattle.line_code.specs.Padded.{Below, padded}
 
--- what holds at each place so far, and of one more value
-pub filled_more : {A : Type 0} (Q : ℕ → A → Type 0) (xs : List A) (i : ℕ) (v d : A) → i < length xs
-    → ((k : ℕ) → k < i → Q k (get_or xs k d)) → Q i v → (k : ℕ) → k < i + 1 → Q k (get_or (set xs i v) k d)
-filled_more Q xs i v d h before here =
-    below_more (λ k. Q k (get_or (set xs i v) k d)) i
-    (λ k l. let ne : k ≢ i = omega arith in rw get_or-set_other (before k l)) (rw get_or-set_same here)
-
-pub padded_is : (words copied : List ℕ) → copied ≡ words → copied ++ drop (length words - 0) (replicate 256 0) ≡ padded words
-padded_is words copied e =
-    let z : length words - 0 ≡ length words = omega arith in
-    ap₂ ◌++◌ e (ap (λ n. drop n (replicate 256 0)) z ∙ drop-replicate (length words) 256 0)
+pub padded_is : (words copied : List ℕ) → copied ≡ words → copied ++ drop (length words) (replicate 256 0) ≡ padded words
+padded_is words copied e = ap₂ ◌++◌ e (drop-replicate (length words) 256 0)
 
 zero_word : (n k : ℕ) → get_or {A = ℕ} (replicate n 0) k 0 ≡ 0
 zero_word n k = elim (dec_lt k n) [
@@ -35,14 +25,13 @@ padded_word words i = elim (dec_lt i (length words)) [
       ∙ zero_word (256 - length words) (i - length words) ∙ sym (get_or_past words i 0 (omega arith))
 ]
 
--- the first 2^n words of a padded line have the line's sums, and are as small as the line's
+-- a padded line has words as small as the line's, and its first 2^n words have the line's sums
 module _ (words run-words : List ℕ) (e : run-words ≡ padded words) where
-  pub gathered_padded : (n most long : ℕ) (sums : List ℕ) → long ≡ 2 ^ n → Gathered n most (take (long - 0) run-words) sums → Gathered n most words sums
+  pub gathered_padded : (n most long : ℕ) (sums : List ℕ) → long ≡ 2 ^ n → Gathered n most (take long run-words) sums → Gathered n most words sums
   gathered_padded n most long sums is gathered set few =
       gathered set few
-      ∙ run_by_ext bit_xor set n (λ i. get_or (take (long - 0) run-words) i 0) (λ i. get_or words i 0)
-      (λ i h. get_or-take (long - 0) run-words i 0 (omega arith) ∙ ap (λ l. get_or l i 0) e ∙ padded_word words i)
+      ∙ run_by_ext bit_xor set n (λ i. get_or (take long run-words) i 0) (λ i. get_or words i 0)
+      (λ i h. get_or-take long run-words i 0 (omega arith) ∙ ap (λ l. get_or l i 0) e ∙ padded_word words i)
 
-  pub below_padded : (b n : ℕ) → Below b words → Below b (take n run-words)
-  below_padded b n small =
-      below_take b n run-words (λ i. subst (λ w. w < 2 ^ b) (sym (ap (λ l. get_or l i 0) e ∙ padded_word words i)) (small i))
+  pub below_padded : (b : ℕ) → Below b words → Below b run-words
+  below_padded b small i = subst (λ w. w < 2 ^ b) (sym (ap (λ l. get_or l i 0) e ∙ padded_word words i)) (small i)

@@ -4,3 +4,5 @@ pub mod Parts
 pub mod Weighing
 pub mod Halfway
 pub mod Filled
+pub mod BitByBit
+pub mod Exponents

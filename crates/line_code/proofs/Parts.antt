@@ -1,5 +1,5 @@
 -- The two parts of a list of words are the halves of its run, and the steps of the sums by halves. Assumes nothing.
-use Rattle.std.proofs.Common.{◌≡◌, ℕ, suc, ◌+◌, ◌^◌, ◌<◌, ◌≤◌, min, Bool, true, false, List, [], ◌∷◌, length, get_or, take, drop, sym, refl, ap, ◌∙◌, ap₂, arith, length-drop, length-take, get_or-drop, get_or-take}
+use Rattle.std.proofs.Common.{◌≡◌, ℕ, suc, ◌+◌, ◌^◌, ◌<◌, ◌≤◌, min, Bool, true, false, List, [], ◌∷◌, length, get_or, take, drop, sym, refl, ap, ◌∙◌, ap₂, arith, length-take, get_or-drop, get_or-take}
 use native.Mathlib.Decide.{dec_lt}
 use Rattle.std.proofs.lemmas.List.{get_or_past}
 use Rattle.ring2.proofs.Solve.{var, nought, unit, ◌⊕◌, ◌⊗◌, ex, reading, solved}
@@ -14,7 +14,7 @@ use Rattle.extension.proofs.Embed.{embed_one}
 use Rattle.halves.specs.Moments.{bit, bit2, bit3, items_of}
 use Rattle.halves.proofs.Halving.{run_ext, run_upper, run_both}
 use Rattle.halves.proofs.Checks.{check0, check1, check2, check3}
-use Rattle.line_code.specs.Sums.{check_sums, Small}
+use Rattle.line_code.specs.Sums.{check_sums}
 use Rattle.line_code.specs.ByHalves.{moments_of, shares_of, shifted_sums}
 use Rattle.line_code.proofs.Running.{sums_path}
 
@@ -38,14 +38,6 @@ module _ (items : List ℕ) (top half : ℕ) (cut : half ≡ min (length items) 
   ]
 
   module _ {K : Type 0} (s : Structure K) where
-    pub small_lower : Small s items → Small s (take half items)
-    small_lower h i l =
-        let k : i < half = omega (arith, length-take half items) in
-        rw (get_or-take half items i 0 k) (h i (omega (arith, length-take half items)))
-
-    pub small_upper : Small s items → Small s (drop half items)
-    small_upper h i l = rw (get_or-drop half items i 0) (h (half + i) (omega (arith, length-drop half items)))
-
     module _ (set : ℕ → Bool) where
       lower_run : run (extend s) set top (items_of s (take half items)) ≡ run (extend s) set top (items_of s items)
       lower_run = run_ext (extend s) set top (items_of s (take half items)) (items_of s items) (λ i h. ap (extend s).of (lower_word i h))
@@ -91,10 +83,3 @@ module _ {K : Type 0} (s : Structure K) where
   checks_by_halves items n few bits =
       sums_path (shifted_sums s (moments_of s items n)) (check_sums s items) (sym (check0 s items n few bits)) (sym (check1 s items n few bits))
       (sym (check2 s items n few bits)) (sym (check3 s items n few bits))
-
--- the least exponent for at most 2^bits items is at most bits
-pub least_within : (n count bits : ℕ) → count ≤ 2 ^ bits → ((k : ℕ) → k < n → 2 ^ k < count) → n ≤ bits
-least_within n count bits h least = elim (dec_lt bits n) [
-  | yes l ↦ absurd (omega (arith, least bits l))
-  | no l ↦ omega arith
-]

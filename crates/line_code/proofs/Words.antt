@@ -1,13 +1,12 @@
 -- The words of a line: which are refused, and that an element's number is a word. Assumes nothing.
-use Rattle.std.proofs.Common.{◌≡◌, ℕ, zero, suc, ◌+◌, ◌^◌, ◌<◌, ◌≤◌, T, List, [], ◌∷◌, length, get_or, drop, is_err, Ok, Err, Result, sym, refl, ap, ◌∙◌, subst, add-one, arith, drop-cons, pow_mono, le-ltb, lt-ltb, le-leb}
+use Rattle.std.proofs.Common.{◌≡◌, ℕ, zero, suc, ◌+◌, ◌^◌, ◌<◌, ◌≤◌, T, List, [], ◌∷◌, length, get_or, drop, is_err, Ok, Err, Result, sym, refl, ap, ◌∙◌, subst, add-one, arith, drop-cons, pow_mono, le-ltb, lt-ltb}
 use native.Mathlib.Decide.{dec_lt}
-use borrow.Author.Tests.{lt-leb}
 use Rattle.fault.specs.declared.fault.BookFault.{BookFault}
-use Rattle.fault.specs.declared.fault.BookFault.TheVariants.{ItemCount, ListLength, WordTooLarge}
+use Rattle.fault.specs.declared.fault.BookFault.TheVariants.{WordTooLarge}
 use Rattle.field.specs.Structure.{Structure, size}
 use Rattle.extension.specs.declared.ext.Ext.{Ext}
 use Rattle.extension.specs.Extend.{extend}
-use Rattle.line_code.specs.Answers.{words_answer, encode_answer}
+use Rattle.line_code.specs.Answers.{words_answer}
 use Rattle.line_code.specs.Sums.{Small}
 
 -- a refusal is no acceptance
@@ -47,38 +46,6 @@ module _ {K : Type 0} (s : Structure K) where
   small_words (w ∷ ws) e (suc i) h = elim (dec_lt w (size (extend s))) [
     | yes l ↦ small_words ws (sym (small_first w ws l) ∙ e) i (omega arith)
     | no l ↦ absurd (never (Err (WordTooLarge w)) (sym (sym e ∙ large_first w ws (omega arith))) tt)
-  ]
-
-  -- a line that is not refused
-  pub record Admitted (items : List ℕ) (places : ℕ) : Type 0 where
-    pub some : 0 < length items
-    pub few : length items ≤ size s
-    pub room : 4 ≤ places
-    pub small : Small s items
-
-  pub admitted : (items : List ℕ) (places : ℕ) → encode_answer s items places ≡ Ok tt → Admitted items places
-  admitted items places e = elim (dec_lt 0 (length items)) [
-    | yes a ↦ elim (dec_lt (size s) (length items)) [
-      | no b ↦ elim (dec_lt places 4) [
-        | no d ↦
-            let few : length items ≤ size s = omega arith in
-            let room : 4 ≤ places = omega arith in
-            record {
-              some = a;
-              few = few;
-              room = room;
-              small = small_words items
-                  (sym (rw (lt-ltb 0 (length items) a, le-leb (length items) (size s) few, le-leb 4 places room)) ∙ e);
-            }
-        | yes d ↦
-            let few : length items ≤ size s = omega arith in
-            absurd (never (Err (ListLength places)) (sym (rw (lt-ltb 0 (length items) a, le-leb (length items) (size s) few, lt-leb 4 places d)) ∙ e) tt)
-      ]
-      | yes b ↦ absurd (never (Err (ItemCount (length items))) (sym (rw (lt-ltb 0 (length items) a, lt-leb (length items) (size s) b)) ∙ e) tt)
-    ]
-    | no a ↦
-        let none : length items ≤ 0 = omega arith in
-        absurd (never (Err (ItemCount (length items))) (sym (rw (le-ltb 0 (length items) none)) ∙ e) tt)
   ]
 
   -- the number of an element of the extension is a word

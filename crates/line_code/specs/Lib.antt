@@ -2,6 +2,6 @@ pub mod Answers
 pub mod Sums
 pub mod Sets
 pub mod ByHalves
-pub mod Weighed
+pub mod Padded
 pub mod Prepared
 pub mod Worked

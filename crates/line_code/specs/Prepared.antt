@@ -1,9 +1,8 @@
 -- What an encoder holds: the numbers of the constants by which the sums R(S) are multiplied. Assumes nothing.
-use Rattle.std.specs.Prelude.{◌≡◌, ℕ, ◌<◌, slice_index, slice_index_or}
+use Rattle.std.specs.Prelude.{◌≡◌, ℕ, ◌<◌, List, slice_index, slice_index_or}
 use Rattle.field.specs.Structure.{Structure}
 use Rattle.halves.specs.Moments.{bit2, bit3, mixed}
 use Rattle.line_code.specs.declared.factors.Factors.{Factors}
-use Rattle.line_code.specs.declared.encoder.Encoder.{Encoder}
 
 module _ {K : Type 0} (s : Structure K) where
   -- the factors of bit k
@@ -12,6 +11,6 @@ module _ {K : Type 0} (s : Structure K) where
     pub cube : f.cube ≡ s.value (bit3 s k)
     pub mixed_with : (j : ℕ) → j < k → slice_index f.mixed j ≡ s.value (mixed s j k)
 
-  -- those of every bit below n
-  abbrev pub Prepared : ℕ → Encoder K → Type 0
-  Prepared n e = (k : ℕ) (d : Factors) → k < n → Factored k (slice_index_or e.factors k d)
+  -- those of every bit below n, in their order
+  abbrev pub Prepared : ℕ → List Factors → Type 0
+  Prepared n factors = (k : ℕ) (d : Factors) → k < n → Factored k (slice_index_or factors k d)

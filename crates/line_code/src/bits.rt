@@ -1,17 +1,18 @@
 // Bits of item numbers: sets of at most two, and how many a line needs.
 ghost use Rattle.std.specs.Prelude.{◌≡◌, ℕ, ◌^◌, ◌<◌, ◌≤◌};
-ghost use Rattle.line_code.specs.Sets.{holds};
+ghost use Rattle.halves.specs.Gathered.{place};
+ghost use Rattle.line_code.specs.Sets.{holds, Within};
 
-// A set of at most two bit positions.
+// A set of at most two bit positions; of two the lower one stands first.
 #[derive(Clone, Copy)]
 pub(crate) enum BitSet {
     Empty,
-    One(u32),
-    Two(u32, u32),
+    One(usize),
+    Two(usize, usize),
 }
 
 impl BitSet {
-    pub(crate) fn holds(self, bit: u32) -> bool
+    pub(crate) fn holds(self, bit: usize) -> bool
         ensures { result ≡ holds self bit }
     {
         match self {
@@ -20,10 +21,22 @@ impl BitSet {
             BitSet::Two(j, k) => bit == j || bit == k,
         }
     }
+
+    // The number whose bits are the set.
+    pub(crate) fn place(self) -> usize
+        requires { Within 8 self }
+        ensures { result ≡ place (holds self) 8 }
+    {
+        match self {
+            BitSet::Empty => 0,
+            BitSet::One(j) => run_length(j),
+            BitSet::Two(j, k) => run_length(k) + run_length(j),
+        }
+    }
 }
 
 // How many items have numbers of so many bits.
-pub(crate) fn run_length(bits: u32) -> usize
+pub(crate) fn run_length(bits: usize) -> usize
     requires { bits ≤ 8 }
     ensures { result ≡ 2 ^ bits }
 {
@@ -31,14 +44,10 @@ pub(crate) fn run_length(bits: u32) -> usize
 }
 
 // The least n for which 2^n is no less than the count.
-pub(crate) fn exponent(count: usize) -> u32
+pub(crate) fn exponent(count: usize) -> usize
     requires { count ≤ 256 }
     ensures fits { count ≤ 2 ^ result }
     ensures least { (k : ℕ) → k < result → 2 ^ k < count }
 {
-    let mut n = 0;
-    while run_length(n) < count {
-        n += 1;
-    }
-    n
+    count.next_power_of_two().ilog2() as usize
 }

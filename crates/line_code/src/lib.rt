@@ -8,6 +8,7 @@ mod factors;
 mod gathering;
 mod halving;
 mod line;
+mod moments;
 mod sums;
 
 pub use encoder::Encoder;

@@ -3,10 +3,11 @@ ghost use Rattle.std.specs.Prelude.{◌≡◌, length};
 ghost use Rattle.line_code.specs.Answers.{encode_answer, encode_after};
 ghost use Rattle.line_code.specs.Worked.{AllHold, worked};
 
-use crate::admit::admit;
-use crate::bits::exponent;
-use crate::encoder::Encoder;
+use crate::admit::Line;
+use crate::factors::prepare;
+use crate::gathering::gathered_sums;
 use crate::halving::sums_by_halves;
+use crate::moments::Constants;
 use crate::sums::plain_sums;
 use fault::fault::BookFault;
 use field::BaseField;
@@ -20,22 +21,12 @@ pub fn encode<F: BaseField>(words: &[u16], checks: &mut [u16]) -> Result<(), Boo
     ensures answer { result ≡ encode_answer F.Field.structure words.now (length checks.old) }
     ensures after { checks.new ≡ encode_after F.Field.structure words.now checks.old }
 {
-    if words.len() >= FEW {
-        return encode_gathered::<F>(words, checks);
+    if words.len() < FEW {
+        return encode_by_sums::<F>(words, checks);
     }
-    encode_by_sums::<F>(words, checks)
-}
-
-// The same by an encoder with constants for the bits of the line's item numbers alone.
-fn encode_gathered<F: BaseField>(words: &[u16], checks: &mut [u16]) -> Result<(), BookFault>
-    ensures answer { result ≡ encode_answer F.Field.structure words.now (length checks.old) }
-    ensures after { checks.new ≡ encode_after F.Field.structure words.now checks.old }
-{
-    admit::<F>(words, checks.len())?;
-    let bits = exponent(words.len());
-    Encoder::<F>::for_bits(bits)
-        .line_sums(words, bits)
-        .write(checks);
+    let line = Line::<F>::admit(words, checks.len())?;
+    let bits = line.bits();
+    gathered_sums(&line, &Constants::of(&prepare::<F>(bits), bits)).write(checks);
     Ok(())
 }
 
@@ -44,8 +35,8 @@ pub fn encode_by_sums<F: BaseField>(words: &[u16], checks: &mut [u16]) -> Result
     ensures answer { result ≡ encode_answer F.Field.structure words.now (length checks.old) }
     ensures after { checks.new ≡ encode_after F.Field.structure words.now checks.old }
 {
-    admit::<F>(words, checks.len())?;
-    plain_sums::<F>(words).write(checks);
+    let line = Line::<F>::admit(words, checks.len())?;
+    plain_sums(&line).write(checks);
     Ok(())
 }
 
@@ -54,8 +45,8 @@ pub fn encode_by_halves<F: BaseField>(words: &[u16], checks: &mut [u16]) -> Resu
     ensures answer { result ≡ encode_answer F.Field.structure words.now (length checks.old) }
     ensures after { checks.new ≡ encode_after F.Field.structure words.now checks.old }
 {
-    admit::<F>(words, checks.len())?;
-    sums_by_halves::<F>(words).write(checks);
+    let line = Line::<F>::admit(words, checks.len())?;
+    sums_by_halves(&line).write(checks);
     Ok(())
 }
 

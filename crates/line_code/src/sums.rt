@@ -3,8 +3,9 @@ ghost use Rattle.std.specs.Prelude.{◌≡◌, ◌<◌, ◌≤◌, length};
 ghost use Rattle.field.specs.Structure.{size};
 ghost use Rattle.extension.specs.Extend.{extend};
 ghost use Rattle.codeword.specs.Codeword.{point};
-ghost use Rattle.line_code.specs.Sums.{check_sums, sums_with, written, Small};
+ghost use Rattle.line_code.specs.Sums.{check_sums, sums_with, written};
 
+use crate::admit::Line;
 use extension::Ext;
 use field::{BaseField, Field};
 
@@ -72,9 +73,8 @@ impl<F: BaseField> Sums<F> {
 }
 
 // The sums of a line by their definition: three products and four sums for each item.
-pub(crate) fn plain_sums<F: BaseField>(words: &[u16]) -> Sums<F>
-    requires { (length words.now ≤ size F.Field.structure) × (Small F.Field.structure words.now) }
-    ensures { result ≡ check_sums F.Field.structure words.now }
+pub(crate) fn plain_sums<F: BaseField>(line: &Line<F>) -> Sums<F>
+    ensures { result ≡ check_sums F.Field.structure line.now.words.now }
 {
     let mut sums = Sums {
         zeroth: Ext::zero(),
@@ -82,7 +82,7 @@ pub(crate) fn plain_sums<F: BaseField>(words: &[u16]) -> Sums<F>
         second: Ext::zero(),
         third: Ext::zero(),
     };
-    for (item, word) in words.iter().enumerate() {
+    for (item, word) in line.words.iter().enumerate() {
         sums = sums.with(element(*word), point(item));
     }
     sums

@@ -1,15 +1,16 @@
--- The eighth power of two is not below a count of at most 256.
-use Rattle.std.proofs.Common.{◌≡◌, ◌^◌, ◌<◌, ap, arith, below_more}
-use native.Mathlib.Decide.{dec_lt}
+-- The power is the least that is no less than the count, and its logarithm is exact.
+use Rattle.std.proofs.Common.{◌≡◌, ◌/◌, ◌^◌, ◌<◌, max, subst, arith}
+use Rattle.line_code.proofs.Exponents.{exact, below_least}
 use Rattle.line_code.proofs.bits.exponent.Goals as goal
 
-pub loop-n-preserved : goal.loop-n-preserved
-loop-n-preserved c =
-    let below : c.loop-n.n < 8 = elim (dec_lt c.loop-n.n 8) [
-      | yes h ↦ h
-      | no h ↦
-          let e : c.loop-n.n ≡ 8 = omega arith in
-          let p : 2 ^ c.loop-n.n ≡ 256 = ap (λ k. 2 ^ k) e in
-          absurd (omega arith)
-    ] in
-    (omega arith, below_more (λ k. 2 ^ k < c.args.count) c.loop-n.n c.loop-n.invariant.1 (omega arith))
+pub returns-clause-fits : goal.returns-clause-fits
+returns-clause-fits c =
+    let p = c.next_power_of_two.ensures.power in
+    omega (arith, exact c.next_power_of_two.result p.0 c.ilog2.result p.1 c.ilog2.ensures.power_le c.ilog2.ensures.next_power_gt)
+
+pub returns-clause-least : goal.returns-clause-least
+returns-clause-least c k h =
+    let p = c.next_power_of_two.ensures.power in
+    let e : c.next_power_of_two.result ≡ 2 ^ c.ilog2.result
+    = exact c.next_power_of_two.result p.0 c.ilog2.result p.1 c.ilog2.ensures.power_le c.ilog2.ensures.next_power_gt in
+    below_least c.args.count c.ilog2.result k (subst (λ n. n / 2 < max 1 c.args.count) e c.next_power_of_two.ensures.upper_bound) h

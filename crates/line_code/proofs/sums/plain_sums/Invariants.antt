@@ -4,4 +4,4 @@ use Rattle.line_code.specs.Sums.{sums_of}
 use Rattle.line_code.proofs.sums.plain_sums.Given as goal
 
 abbrev pub invariant-loop-item : goal.invariant-loop-item
-invariant-loop-item g l = l.sums ≡ sums_of g.F.Field.structure l.words l.item
+invariant-loop-item g l = l.sums ≡ sums_of g.F.Field.structure l.line.words.now l.item

@@ -1,9 +1,0 @@
--- The terms of the pairs so far.
-use Rattle.std.proofs.Common.{◌≡◌}
-use Rattle.extension.specs.Extend.{extend}
-use Rattle.codeword.specs.Sums.{total}
-use Rattle.line_code.specs.ByHalves.{pair_term}
-use Rattle.line_code.proofs.halving.mixed_sum.Given as goal
-
-abbrev pub invariant-loop-j : goal.invariant-loop-j
-invariant-loop-j g l = l.sum ≡ total (extend g.F.Field.structure) (pair_term g.F.Field.structure l.words l.exponent l.k) l.j
