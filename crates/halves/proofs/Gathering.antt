@@ -93,11 +93,6 @@ place_two j k (suc m) l h = elim (ℕ_discrete m k) [
 ]
 
 -- how many bits the sets have
-pub count_none : (m : ℕ) → count none m ≤ 0
-unfolding count
-count_none zero = omega arith
-count_none (suc m) = omega (arith, count_none m)
-
 count_one_from : (j m : ℕ) → (count (one j) m ≤ 1) × (count (one j) m ≤ m - j)
 unfolding count
 count_one_from j zero = (omega arith, omega arith)

@@ -7,11 +7,12 @@ use Rattle.field.specs.Structure.{Structure, size}
 use Rattle.extension.specs.Extend.{extend}
 use Rattle.codeword.specs.Sums.{count}
 use Rattle.codeword.specs.Codeword.{element}
+use Rattle.codeword.proofs.Counts.{count_never}
 use Rattle.halves.specs.Runs.{run}
 use Rattle.halves.specs.Gathered.{run_by, place, Gathered}
 use Rattle.halves.specs.Moments.{items_of}
 use Rattle.halves.proofs.Halving.{run_is}
-use Rattle.halves.proofs.Gathering.{run_image, place_lt, place_none, place_one, place_two, count_none, count_one, count_two}
+use Rattle.halves.proofs.Gathering.{run_image, place_lt, place_none, place_one, place_two, count_one, count_two}
 use Rattle.line_code.specs.declared.bits.BitSet.{BitSet}
 use Rattle.line_code.specs.declared.bits.BitSet.TheVariants.{Empty, One, Two}
 use Rattle.line_code.specs.Sums.{Small}
@@ -30,7 +31,7 @@ same_place (One j) m n v w = place_one j m v ∙ sym (place_one j n w)
 same_place (Two j k) m n v w = place_two j k m v.0 v.1 ∙ sym (place_two j k n w.0 w.1)
 
 few_bits : (set : BitSet) (n : ℕ) → count (holds set) n ≤ 2
-few_bits Empty n = omega (arith, count_none n)
+few_bits Empty n = omega (arith, count_never n)
 few_bits (One j) n = omega (arith, count_one j n)
 few_bits (Two j k) n = count_two j k n
 

@@ -28,12 +28,10 @@ fn admit_words<F: BaseField>(words: &[u16]) -> Result<(), BookFault>
     ensures { result ≡ words_answer F.Field.structure words.now }
 {
     let bound = Ext::<F>::order();
-    for word in words {
-        if *word as u32 >= bound {
-            return Err(BookFault::WordTooLarge(*word as usize));
-        }
+    match words.iter().find(|word| **word as u32 >= bound) {
+        Some(word) => Err(BookFault::WordTooLarge(*word as usize)),
+        None => Ok(()),
     }
-    Ok(())
 }
 
 impl<'a, F: BaseField> Line<'a, F> {

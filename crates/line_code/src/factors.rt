@@ -9,7 +9,7 @@ use field::{BaseField, Field};
 use std::array;
 
 // Of a bit k, by their numbers: v_k², v_k³, and for each lower bit j the mixed factor v_j²·v_k + v_j·v_k².
-// By their numbers, since a caller of a function with an array of a type parameter's elements has to show their size.
+// Numbers and not elements, since a caller of a function with an array of a type parameter's elements has to show their size.
 #[derive(Clone, Copy)]
 pub(crate) struct Factors {
     pub square: u8,

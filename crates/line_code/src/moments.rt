@@ -42,6 +42,7 @@ impl<'a, F: BaseField> Constants<'a, F> {
     {
         let factors = &self.factors[k];
         let mut total = Ext::zero();
+        // As a fold, the closure would need a contract of its own, longer than this loop's invariant.
         for j in 0..k {
             let part = sum(BitSet::Two(j, k));
             total = total.plus(part.scaled(factor(factors.mixed[j])));
@@ -81,6 +82,7 @@ impl<'a, F: BaseField> Constants<'a, F> {
         let mut second = Ext::zero();
         let mut cubes = Ext::zero();
         let mut pairs = Ext::zero();
+        // By number, since the closure, too, takes the number of a bit.
         for k in 0..self.factors.len() {
             let share = self.shares(sum(BitSet::One(k)), k);
             first = first.plus(share.first);

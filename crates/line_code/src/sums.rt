@@ -82,6 +82,7 @@ pub(crate) fn plain_sums<F: BaseField>(line: &Line<F>) -> Sums<F>
         second: Ext::zero(),
         third: Ext::zero(),
     };
+    // As a fold, the closure would need a contract of its own, longer than this loop's invariant.
     for (item, word) in line.words.iter().enumerate() {
         sums = sums.with(element(*word), point(item));
     }

@@ -1,28 +1,25 @@
--- Word by word: a large one is the answer, a small one leaves it to the next.
-use Rattle.std.proofs.Common.{◌<◌, ◌≤◌, length, get_or, sym, ap, ◌∙◌, arith}
-use Rattle.std.proofs.lemmas.List.{drop_all}
+-- The first word that is too large is the answer.
+use Rattle.std.proofs.Common.{◌≡◌, leb, sym, ap, ◌∙◌, rules, tests}
+use Rattle.std.specs.Option.{option_map}
+use Rattle.std.proofs.lemmas.Iterator.{YieldsList-from_slice}
+use Rattle.std.proofs.lemmas.Iterator.Search.{find_from_yields_List}
 use Rattle.field.specs.Structure.{size}
 use Rattle.extension.specs.Extend.{extend}
 use Rattle.line_code.specs.Answers.{words_answer}
-use Rattle.line_code.proofs.Words.{words_none, small_more, large_here}
+use Rattle.line_code.proofs.Words.{answer_to, words_found}
 use Rattle.line_code.proofs.admit.admit_words.Goals as goal
+use Rattle.line_code.proofs.admit.admit_words.Given.{Over}
+use Rattle.line_code.proofs.admit.admit_words.Goals.{After-find}
 
-pub returns-then-word-bound : goal.returns-then-word-bound
-returns-then-word-bound g c =
-    let s = g.F.Field.structure in
-    let l : size (extend s) ≤ get_or c.args.words.now c.loop-word.word-index 0 = omega arith in
-    let h : c.loop-word.word-index < length c.args.words.now = omega arith in
-    let e = large_here s c.args.words.now c.loop-word.word-index h l in
-    cc
+-- the answer by what the search found
+found : (g : Over) (c : After-find g) → answer_to (option_map (λ x. x.now) c.find.result) ≡ words_answer g.F.Field.structure c.args.words.now
+found g c =
+    ap answer_to
+    (find_from_yields_List (λ w. leb (size (extend g.F.Field.structure)) w) _ _ c.find.result c.find.ensures.ran (YieldsList-from_slice _ c.iter.ensures.rest) (λ x b q k. search (rules, tests)))
+    ∙ words_found g.F.Field.structure c.args.words.now
 
-pub loop-word-preserved : goal.loop-word-preserved
-loop-word-preserved g c =
-    let s = g.F.Field.structure in
-    let l : get_or c.args.words.now c.loop-word.word-index 0 < size (extend s) = omega arith in
-    let h : c.loop-word.word-index < length c.args.words.now = omega arith in
-    small_more s c.args.words.now c.loop-word.word-index h l ∙ c.loop-word.invariant
+pub returns-in-Some : goal.returns-in-Some
+returns-in-Some g c = ap (λ r. answer_to (option_map (λ x. x.now) r)) (sym c.in-Some.is) ∙ found g (goal.at.returns-in-Some g c).After-find
 
-pub returns : goal.returns
-returns g c =
-    let s = g.F.Field.structure in
-    sym (words_none s) ∙ ap (words_answer s) (sym (drop_all c.loop-word.word-index c.args.words.now c.loop-word-test.false)) ∙ c.loop-word.invariant
+pub returns-in-None : goal.returns-in-None
+returns-in-None g c = ap (λ r. answer_to (option_map (λ x. x.now) r)) (sym c.in-None.is) ∙ found g (goal.at.returns-in-None g c).After-find
