@@ -1,9 +1,19 @@
 -- Reading and writing four values by their places. Assumes nothing.
-use Rattle.std.proofs.Common.{◌≡◌, ℕ, zero, suc, ◌<◌, ◌≤◌, refl, arith}
+use Rattle.std.proofs.Common.{◌≡◌, ℕ, zero, suc, ◌<◌, ◌≤◌, refl, lit<, arith}
 use Rattle.field.specs.Structure.{Structure}
 use Rattle.elimination.specs.declared.four.Four.{Four}
-use Rattle.elimination.specs.Places.{place, put}
+use Rattle.elimination.specs.Places.{place, made, put}
 use Rattle.elimination.specs.Equations.{at}
+
+pub place_made : {T : Type 0} (f : ℕ → T) (k : ℕ) → k < 4 → place (made f) k ≡ f k
+place_made f zero h = refl
+place_made f (suc zero) h = refl
+place_made f (suc (suc zero)) h = refl
+place_made f (suc (suc (suc zero))) h = refl
+place_made f (suc (suc (suc (suc k)))) h = absurd (omega arith)
+
+pub is_made : {T : Type 0} (f : ℕ → T) (x : Four T) → ((k : ℕ) → k < 4 → place x k ≡ f k) → x ≡ made f
+is_made f x same = λ i. record { a = same 0 (lit< tt) i; b = same 1 (lit< tt) i; c = same 2 (lit< tt) i; d = same 3 (lit< tt) i }
 
 module _ {T : Type 0} (f : Four T) where
   pub place_put : (i : ℕ) (x : T) → place (put f i x) i ≡ x

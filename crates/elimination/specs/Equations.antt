@@ -3,18 +3,18 @@ use Rattle.std.specs.Prelude.{ℕ, zero, suc}
 use Rattle.field.specs.Structure.{Structure}
 use Rattle.elimination.specs.declared.four.Four.{Four}
 use Rattle.elimination.specs.declared.system.Equation.{Equation}
-use Rattle.elimination.specs.Places.{place}
+use Rattle.elimination.specs.Places.{place, made}
 
 module _ {K : Type 0} where
   -- the equation across place r of four columns and of the right hand sides, and the four equations
   abbrev pub across : Four (Four K) → Four K → ℕ → Equation K
   across columns right r = record {
-    coefficients = record { a = place columns.a r; b = place columns.b r; c = place columns.c r; d = place columns.d r };
+    coefficients = made (λ j. place (place columns j) r);
     right = place right r;
   }
 
   abbrev pub by_columns : Four (Four K) → Four K → Four (Equation K)
-  by_columns columns right = record { a = across columns right 0; b = across columns right 1; c = across columns right 2; d = across columns right 3 }
+  by_columns columns right = made (across columns right)
 
 module _ {K : Type 0} (s : Structure K) where
   -- the element at a place of four; zero after them
@@ -45,22 +45,12 @@ module _ {K : Type 0} (s : Structure K) where
 
   abbrev pub multiplied : K → Equation K → Equation K
   multiplied c e = record {
-    coefficients = record {
-      a = s.times c e.coefficients.a;
-      b = s.times c e.coefficients.b;
-      c = s.times c e.coefficients.c;
-      d = s.times c e.coefficients.d;
-    };
+    coefficients = made (λ j. s.times c (place e.coefficients j));
     right = s.times c e.right;
   }
 
   abbrev pub summed : Equation K → Equation K → Equation K
   summed e f = record {
-    coefficients = record {
-      a = s.plus e.coefficients.a f.coefficients.a;
-      b = s.plus e.coefficients.b f.coefficients.b;
-      c = s.plus e.coefficients.c f.coefficients.c;
-      d = s.plus e.coefficients.d f.coefficients.d;
-    };
+    coefficients = made (λ j. s.plus (place e.coefficients j) (place f.coefficients j));
     right = s.plus e.right f.right;
   }

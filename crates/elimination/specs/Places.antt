@@ -10,6 +10,10 @@ module _ {T : Type 0} where
   place f (suc (suc zero)) = f.c
   place f (suc (suc (suc n))) = f.d
 
+  -- the four values that a function has at the places
+  abbrev pub made : (ℕ → T) → Four T
+  made f = record { a = f 0; b = f 1; c = f 2; d = f 3 }
+
   -- the four values with another at a place
   abbrev pub put : Four T → ℕ → T → Four T
   put f zero x = record { a = x; b = f.b; c = f.c; d = f.d }

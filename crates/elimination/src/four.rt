@@ -1,6 +1,9 @@
-// Four values of one type, in place of an array: generic code that passes arrays of elements would have to know that these fit into memory.
-ghost use Rattle.std.specs.Prelude.{◌≡◌};
+// Four values of one type.
+// No `[T; 4]`: a generic call with an array of a type parameter's elements owes that they fit into memory, which no bound here says.
+ghost use Rattle.std.specs.Prelude.{◌≡◌, ◌<◌, ℕ};
 ghost use Rattle.elimination.specs.Places.{place, put};
+
+use std::ops::Index;
 
 // The values at the places 0 to 3.
 #[derive(Clone, Copy)]
@@ -12,26 +15,16 @@ pub struct Four<T> {
 }
 
 impl<T: Copy> Four<T> {
-    pub fn all(x: T) -> Four<T>
-        ensures { result ≡ record { a = x; b = x; c = x; d = x } }
+    // The value that a closure gives at each place.
+    pub fn from_fn<M: Fn(usize) -> T>(make: M) -> Four<T>
+        requires { (k : ℕ) → k < 4 → M.pre make k }
+        ensures { (k : ℕ) → k < 4 → M.post make k (place result k) }
     {
         Four {
-            a: x,
-            b: x,
-            c: x,
-            d: x,
-        }
-    }
-
-    // The value at a place; from 3 on it is the last.
-    pub fn get(self, i: usize) -> T
-        ensures { result ≡ place self i }
-    {
-        match i {
-            0 => self.a,
-            1 => self.b,
-            2 => self.c,
-            _ => self.d,
+            a: make(0),
+            b: make(1),
+            c: make(2),
+            d: make(3),
         }
     }
 
@@ -44,6 +37,22 @@ impl<T: Copy> Four<T> {
             1 => Four { b: x, ..self },
             2 => Four { c: x, ..self },
             _ => Four { d: x, ..self },
+        }
+    }
+}
+
+// The value at a place; from 3 on it is the last.
+impl<T> Index<usize> for Four<T> {
+    type Output = T;
+
+    ghost index_gives = { λ f i x. x ≡ place f i };
+
+    fn index(&self, i: usize) -> &T {
+        match i {
+            0 => &self.a,
+            1 => &self.b,
+            2 => &self.c,
+            _ => &self.d,
         }
     }
 }

@@ -1,5 +1,5 @@
 // Systems of four equations, and elimination.
-ghost use Rattle.std.specs.Prelude.{◌≡◌, ℕ, ◌<◌, ◌≤◌, true, false, ◌≢◌};
+ghost use Rattle.std.specs.Prelude.{◌≡◌, ℕ, ◌<◌, ◌≤◌, ◌↔◌, IsTrue, ◌≢◌};
 ghost use Rattle.systems.specs.Rows.{Added, Exchanged, Scaled};
 ghost use Rattle.elimination.specs.Answer.{Answer, Eliminated, Nonzero};
 ghost use Rattle.elimination.specs.Equations.{across, at, by_columns, cell, multiplied, summed, table};
@@ -15,7 +15,7 @@ pub struct Equation<F> {
 }
 
 // Why a system has no one solution.
-#[derive(Clone, Copy)]
+#[derive(Clone, Copy, PartialEq, Eq, Debug)]
 pub enum Unsolved {
     // The columns are dependent: the equations have several solutions or none.
     Dependent,
@@ -23,9 +23,9 @@ pub enum Unsolved {
     Inconsistent,
 }
 
+// A field asks for no `==` of its elements: zero is the element with the number 0.
 fn is_zero<F: Field>(x: F) -> bool
-    ensures zero { result ≡ true → x ≡ F.Field.structure.zero }
-    ensures other { result ≡ false → x ≢ F.Field.structure.zero }
+    ensures { IsTrue result ↔ x ≡ F.Field.structure.zero }
 {
     x.number() == 0
 }
@@ -36,7 +36,7 @@ impl<F: Field> Equation<F> {
         ensures { result ≡ cell F.Field.structure self j }
     {
         if j < 4 {
-            self.coefficients.get(j)
+            self.coefficients[j]
         } else {
             self.right
         }
@@ -45,15 +45,8 @@ impl<F: Field> Equation<F> {
     fn times(self, by: F) -> Equation<F>
         ensures { result ≡ multiplied F.Field.structure by self }
     {
-        let Four { a, b, c, d } = self.coefficients;
-        let coefficients = Four {
-            a: by.times(a),
-            b: by.times(b),
-            c: by.times(c),
-            d: by.times(d),
-        };
         Equation {
-            coefficients,
+            coefficients: Four::from_fn(|j| by.times(self.coefficients[j])),
             right: by.times(self.right),
         }
     }
@@ -61,15 +54,8 @@ impl<F: Field> Equation<F> {
     fn plus(self, other: Equation<F>) -> Equation<F>
         ensures { result ≡ summed F.Field.structure self other }
     {
-        let (x, y) = (self.coefficients, other.coefficients);
-        let coefficients = Four {
-            a: x.a.plus(y.a),
-            b: x.b.plus(y.b),
-            c: x.c.plus(y.c),
-            d: x.d.plus(y.d),
-        };
         Equation {
-            coefficients,
+            coefficients: Four::from_fn(|j| self.coefficients[j].plus(other.coefficients[j])),
             right: self.right.plus(other.right),
         }
     }
@@ -93,16 +79,9 @@ impl<F: Field> Equation<F> {
 fn row<F: Copy>(columns: Four<Four<F>>, right: Four<F>, r: usize) -> Equation<F>
     ensures { result ≡ across columns right r }
 {
-    let Four { a, b, c, d } = columns;
-    let coefficients = Four {
-        a: a.get(r),
-        b: b.get(r),
-        c: c.get(r),
-        d: d.get(r),
-    };
     Equation {
-        coefficients,
-        right: right.get(r),
+        coefficients: Four::from_fn(|j| columns[j][r]),
+        right: right[r],
     }
 }
 
@@ -110,31 +89,22 @@ fn row<F: Copy>(columns: Four<Four<F>>, right: Four<F>, r: usize) -> Equation<F>
 pub fn equations<F: Copy>(columns: Four<Four<F>>, right: Four<F>) -> Four<Equation<F>>
     ensures { result ≡ by_columns columns right }
 {
-    Four {
-        a: row(columns, right, 0),
-        b: row(columns, right, 1),
-        c: row(columns, right, 2),
-        d: row(columns, right, 3),
-    }
+    Four::from_fn(|r| row(columns, right, r))
 }
 
 // A row, not above the given one, whose element in the column is not zero.
 fn nonzero<F: Field>(rows: Four<Equation<F>>, from: usize, column: usize) -> Option<usize>
     ensures { Nonzero F.Field.structure rows from column result }
 {
-    for r in from..4 {
-        if !is_zero(rows.get(r).cell(column)) {
-            return Some(r);
-        }
-    }
-    None
+    (from..4).find(|r| !is_zero(rows[*r].cell(column)))
 }
 
 fn exchange<F: Field>(rows: Four<Equation<F>>, p: usize, q: usize) -> Four<Equation<F>>
-    requires { (p < 4) × (q < 4) }
+    requires first { p < 4 }
+    requires second { q < 4 }
     ensures { Exchanged F.Field.structure (table F.Field.structure rows) p q (table F.Field.structure result) }
 {
-    rows.with(p, rows.get(q)).with(q, rows.get(p))
+    rows.with(p, rows[q]).with(q, rows[p])
 }
 
 // Makes the element at row p and column p one.
@@ -142,21 +112,22 @@ fn scale<F: Field>(rows: Four<Equation<F>>, p: usize) -> Four<Equation<F>>
     requires { p < 4 }
     ensures { Scaled F.Field.structure (table F.Field.structure rows) p (F.Field.structure.inverse (table F.Field.structure rows p p)) (table F.Field.structure result) }
 {
-    rows.with(p, rows.get(p).normalized(p))
+    rows.with(p, rows[p].normalized(p))
 }
 
 // Makes the other elements of column p zero.
-fn clear<F: Field>(mut rows: Four<Equation<F>>, p: usize) -> Four<Equation<F>>
+fn clear<F: Field>(rows: Four<Equation<F>>, p: usize) -> Four<Equation<F>>
     requires { p < 4 }
     ensures { Added F.Field.structure (table F.Field.structure rows) p (λ k. table F.Field.structure rows k p) (table F.Field.structure result) }
 {
-    let pivot = rows.get(p);
-    for r in 0..4 {
-        if r != p {
-            rows = rows.with(r, rows.get(r).reduced(pivot, p));
+    let pivot = rows[p];
+    Four::from_fn(|r| {
+        if r == p {
+            pivot
+        } else {
+            rows[r].reduced(pivot, p)
         }
-    }
-    rows
+    })
 }
 
 fn eliminate<F: Field>(mut rows: Four<Equation<F>>, unknowns: usize) -> Option<Four<Equation<F>>>
@@ -176,11 +147,13 @@ fn solution<F: Field>(rows: Four<Equation<F>>, unknowns: usize) -> Four<F>
     ensures known { (j : ℕ) → j < unknowns → at F.Field.structure result j ≡ table F.Field.structure rows j 4 }
     ensures after { (j : ℕ) → unknowns ≤ j → at F.Field.structure result j ≡ F.Field.structure.zero }
 {
-    let mut x = Four::all(F::zero());
-    for j in 0..unknowns {
-        x = x.with(j, rows.get(j).right);
-    }
-    x
+    Four::from_fn(|j| {
+        if j < unknowns {
+            rows[j].right
+        } else {
+            F::zero()
+        }
+    })
 }
 
 // The values of the first unknowns that satisfy the four equations; the places after them are zero.
@@ -191,9 +164,7 @@ pub fn solve<F: Field>(system: Four<Equation<F>>, unknowns: usize) -> Result<Fou
     if unknowns > 4 {
         return Err(Unsolved::Dependent);
     }
-    let Some(rows) = eliminate(system, unknowns) else {
-        return Err(Unsolved::Dependent);
-    };
+    let rows = eliminate(system, unknowns).ok_or(Unsolved::Dependent)?;
     match nonzero(rows, unknowns, 4) {
         Some(_) => Err(Unsolved::Inconsistent),
         None => Ok(solution(rows, unknowns)),

@@ -13,11 +13,10 @@ use std::env;
 use table_field::Table256;
 
 fn arguments(rt: &HostRuntime) -> anyhow::Result<Vec<u16>> {
-    let mut numbers = Vec::new(rt.alloc());
-    for word in env::args(rt)?.skip(1) {
-        numbers.push(word.as_str().parse::<u16>()?)?;
-    }
-    Ok(numbers)
+    env::args(rt)?
+        .skip(1)
+        .map(|word| -> anyhow::Result<u16> { Ok(word.as_str().parse::<u16>()?) })
+        .try_collect(rt.alloc())
 }
 
 // The check words of the items, and the items.

@@ -1,7 +1,10 @@
 // Striking out sets of bays of a codeword, and restoring it.
+ghost use Rattle.std.specs.Prelude.{◌≡◌};
+
 use field::{BaseField, Field};
 
-#[derive(Clone, Copy)]
+// How many sets were struck out, and after how many of them the codeword came back whole.
+#[derive(Clone, Copy, Default)]
 pub(crate) struct Tally {
     pub sets: u64,
     pub whole: u64,
@@ -9,46 +12,24 @@ pub(crate) struct Tally {
 
 // Whether the codeword comes back when the marked bays are absent.
 fn comes_back<F: BaseField>(codeword: &[u16], marks: &[u8], work: &mut [u16]) -> bool {
-    if work.len() != codeword.len() || marks.len() != codeword.len() {
-        return false;
+    for ((word, known), mark) in work.iter_mut().zip(codeword).zip(marks) {
+        *word = if *mark == 0 { *known } else { u16::MAX };
     }
-    for bay in 0..work.len() {
-        work[bay] = if marks[bay] == 0 {
-            codeword[bay]
-        } else {
-            65_535
-        };
-    }
-    if restore::restore::<F>(work, marks).is_err() {
-        return false;
-    }
-    for bay in 0..work.len() {
-        if work[bay] != codeword[bay] {
-            return false;
-        }
-    }
-    true
+    restore::restore::<F>(work, marks).is_ok() && *work == *codeword
 }
 
-// Restores the codeword without the marked bays, and without each set of at most so many more of them below `end`.
-fn strike_below<F: BaseField>(
-    codeword: &[u16],
-    marks: &mut [u8],
-    work: &mut [u16],
-    end: usize,
-    more: u8,
-    tally: &mut Tally,
-) {
-    tally.sets = tally.sets.saturating_add(1);
-    if comes_back::<F>(codeword, marks, work) {
-        tally.whole = tally.whole.saturating_add(1);
-    }
+// Visits the marks as they are, and with each set of at most so many more bays below `end` marked.
+fn visit_sets<V: FnMut(&[u8])>(marks: &mut [u8], end: usize, more: u8, visit: &mut V)
+    requires { V.IsAlwaysCallable visit.old }
+    ensures { V.IsAlwaysCallable visit.new }
+{
+    visit(marks);
     if more == 0 {
         return;
     }
     for bay in 0..end.min(marks.len()) {
         marks[bay] = 1;
-        strike_below::<F>(codeword, marks, work, bay, more - 1, tally);
+        visit_sets(marks, bay, more - 1, visit);
         marks[bay] = 0;
     }
 }
@@ -69,7 +50,12 @@ pub(crate) fn strike_out<F: BaseField>(
     work: &mut [u16],
     most: u8,
 ) -> Tally {
-    let mut tally = Tally { sets: 0, whole: 0 };
-    strike_below::<F>(codeword, marks, work, codeword.len(), most, &mut tally);
+    let mut tally = Tally::default();
+    visit_sets(marks, codeword.len(), most, &mut |marks: &[u8]| {
+        tally.sets = tally.sets.saturating_add(1);
+        if comes_back::<F>(codeword, marks, work) {
+            tally.whole = tally.whole.saturating_add(1);
+        }
+    });
     tally
 }

@@ -3,3 +3,4 @@ mod Counting
 mod Filling
 mod PresentSums
 mod Solving
+mod Columns

@@ -1,5 +1,8 @@
 -- The sums of the present words, bay by bay. Assumes nothing.
-use Rattle.std.proofs.Common.{◌≡◌, ℕ, zero, suc, ◌+◌, ◌<◌, true, false, cond, List, get_or, sym, refl, ap, ◌∙◌, ap₂}
+use Rattle.std.proofs.Common.{◌≡◌, ℕ, ◌+◌, ◌<◌, true, false, cond, List, [], ◌∷◌, length, drop, get_or, sym, ap, ◌∙◌, ap₂, arith}
+use Rattle.std.proofs.Math.ListN.{drop_of_length-le}
+use Rattle.std.proofs.lemmas.List.{drop_more}
+use native.Mathlib.Decide.{dec_lt}
 use Rattle.ring2.proofs.Laws.{times_zero}
 use Rattle.field.specs.Structure.{Structure}
 use Rattle.extension.specs.declared.ext.Ext.{Ext}
@@ -10,23 +13,18 @@ use Rattle.codeword.proofs.Sums.{total_none, total_more}
 use Rattle.distance.specs.Column.{column}
 use Rattle.elimination.specs.declared.four.Four.{Four}
 use Rattle.elimination.specs.Places.{place}
+use Rattle.elimination.proofs.Places.{place_made}
 use Rattle.restore.specs.Restored.{absent}
 use Rattle.restore.specs.System.{multiple_added, known}
 
-place_all : {T : Type 0} (x : T) (k : ℕ) → place (record { a = x; b = x; c = x; d = x }) k ≡ x
-place_all x zero = refl
-place_all x (suc zero) = refl
-place_all x (suc (suc zero)) = refl
-place_all x (suc (suc (suc k))) = refl
+-- where a list begins that is left after n items
+pub drop_head : (n : ℕ) (xs ys : List ℕ) (x : ℕ) → drop n xs ≡ x ∷ ys → (n < length xs) × (get_or xs n 0 ≡ x) × (ys ≡ drop (n + 1) xs)
+drop_head n xs ys x e = elim (dec_lt n (length xs)) [
+  | yes h ↦ let more = drop_more xs n 0 h in (h, cc, cc)
+  | no h ↦ let none : drop n xs ≡ [] = drop_of_length-le xs (omega arith) in absurd (cc)
+]
 
 module _ {K : Type 0} (s : Structure K) where
-  place_added : (f col : Four (Ext K)) (w : Ext K) (k : ℕ)
-      → place (multiple_added s f col w) k ≡ (extend s).plus (place f k) ((extend s).times (place col k) w)
-  place_added f col w zero = refl
-  place_added f col w (suc zero) = refl
-  place_added f col w (suc (suc zero)) = refl
-  place_added f col w (suc (suc (suc k))) = refl
-
   module _ (bays marks : List ℕ) where
     abbrev term : ℕ → ℕ → Ext K
     term k b = (extend s).times (column s b k) (known s bays marks b)
@@ -35,8 +33,8 @@ module _ {K : Type 0} (s : Structure K) where
     abbrev pub Sums : ℕ → Four (Ext K) → Type 0
     Sums n f = (k : ℕ) → k < 4 → place f k ≡ total (extend s) (λ b. (extend s).times (column s b k) (known s bays marks b)) n
 
-    pub sums_none : (f : Four (Ext K)) (z : Ext K) → f ≡ record { a = z; b = z; c = z; d = z } → z ≡ (extend s).zero → Sums 0 f
-    sums_none f z e none k h = ap (λ (t : Four (Ext K)). place t k) e ∙ place_all z k ∙ none ∙ sym (total_none (extend s) (term k))
+    pub sums_none : (f : Four (Ext K)) → ((k : ℕ) → k < 4 → place f k ≡ (extend s).zero) → Sums 0 f
+    sums_none f none k h = none k h ∙ sym (total_none (extend s) (term k))
 
     module _ (n : ℕ) (f g : Four (Ext K)) (sofar : Sums n f) where
       -- a present bay
@@ -44,7 +42,7 @@ module _ {K : Type 0} (s : Structure K) where
           → (w : Ext K) → w ≡ element s (get_or bays n 0) → g ≡ multiple_added s f col w → Sums (n + 1) g
       sums_take here col cols w is e k h =
           let value : w ≡ known s bays marks n = is ∙ sym (ap (λ b. cond b (extend s).zero (element s (get_or bays n 0))) here) in
-          ap (λ (t : Four (Ext K)). place t k) e ∙ place_added f col w k
+          ap (λ (t : Four (Ext K)). place t k) e ∙ place_made (λ k. (extend s).plus (place f k) ((extend s).times (place col k) w)) k h
           ∙ ap₂ (extend s).plus (sofar k h) (ap₂ (extend s).times (cols k h) value)
           ∙ sym (total_more (extend s) (term k) n)
 

@@ -1,5 +1,5 @@
 -- The words of the absent bays are restored exactly where they solve the system. Assumes nothing.
-use Rattle.std.proofs.Common.{◌≡◌, ℕ, ◌+◌, ◌-◌, ◌<◌, ◌≤◌, Bool, true, false, cond, List, length, get_or, drop, Err, sym, refl, ap, ◌∙◌, subst, ap₂, arith, length-drop, get_or-drop}
+use Rattle.std.proofs.Common.{◌≡◌, ℕ, ◌+◌, ◌-◌, ◌<◌, ◌≤◌, Bool, true, false, cond, List, length, get_or, drop, Result, Ok, Err, sym, refl, ap, ◌∙◌, subst, ap₂, arith, length-drop, get_or-drop}
 use borrow.Author.Tests.{clash}
 use Rattle.ring2.proofs.Laws.{zero_plus, equal}
 use Rattle.field.specs.Structure.{Structure, size}
@@ -24,8 +24,11 @@ use Rattle.restore.specs.Restored.{absent, Admitted, Whole, NoLine}
 use Rattle.restore.specs.Absences.{Absences}
 use Rattle.restore.specs.System.{known, present_sum, Asks, Placed}
 
-module _ {K : Type 0} (s : Structure K) (bays marks places : List ℕ) (m : ℕ) (ok : Admitted s bays marks) (listed : Absences (absent marks) (length bays) m places)
-    (t : Four (Equation (Ext K))) (asks : Asks s bays marks places m t) where
+module _ {K : Type 0} (s : Structure K) (bays marks places : List ℕ) (ok : Admitted s bays marks) (listed : Absences (absent marks) (length bays) places)
+    (t : Four (Equation (Ext K))) (asks : Asks s bays marks places (length places) t) where
+  abbrev pub m : ℕ
+  m = length places
+
   n : ℕ
   n = length bays - 4
 
@@ -154,6 +157,7 @@ module _ {K : Type 0} (s : Structure K) (bays marks places : List ℕ) (m : ℕ)
       ∙ sym (asks.sums k h))
 
   -- The columns are never dependent, so what is not solved has no solution.
-  pub never_solved : (e : Unsolved) → Answer (extend s) t m (Err e) → NoLine s bays marks
-  never_solved Inconsistent a = no_line a.1
-  never_solved Dependent a = absurd (a columns_independent)
+  pub never_solved : (r : Result (Four (Ext K)) Unsolved) → Answer (extend s) t m r → ((x : Four (Ext K)) → r ≡ Ok x → ⊥) → NoLine s bays marks
+  never_solved (Ok x) a not = absurd (not x refl)
+  never_solved (Err Inconsistent) a not = no_line a.1
+  never_solved (Err Dependent) a not = absurd (a columns_independent)

@@ -1,7 +1,8 @@
 -- What restoring a line answers, and what the words then are. Assumes nothing.
-use Rattle.std.specs.Prelude.{◌≡◌, ℕ, ◌+◌, ◌-◌, ◌<◌, ◌≤◌, Bool, true, false, cond, not, ◌&&◌, ◌||◌, List, [], ◌∷◌, length, Some, None, Ok, Err, Option, Result, ◌==◌, nat_le, nat_lt, slice_index}
+use Rattle.std.specs.Prelude.{◌≡◌, ℕ, ◌+◌, ◌-◌, ◌<◌, ◌≤◌, Bool, false, cond, not, ◌&&◌, ◌||◌, List, [], ◌∷◌, length, Some, None, Ok, Err, Option, Result, ◌==◌, nat_le, nat_lt, slice_index}
 use Rattle.fault.specs.declared.fault.BookFault.{BookFault}
 use Rattle.fault.specs.declared.fault.BookFault.TheVariants.{ItemCount, ListLength, WordTooLarge, TooManyAbsent, NoCodeword}
+use Rattle.fault.specs.Refusing.{when, or_else}
 use Rattle.field.specs.Structure.{Structure, size}
 use Rattle.codeword.specs.Sums.{count}
 use Rattle.codeword.specs.Codeword.{words, codeword, Line, Agrees}
@@ -16,15 +17,7 @@ first_large bound [] marks = None
 first_large bound (w ∷ ws) [] = None
 first_large bound (w ∷ ws) (m ∷ ms) = cond (m == 0 && nat_le bound w) (Some w) (first_large bound ws ms)
 
--- The refusal f, or else the next one.
-abbrev pub or_else : Option BookFault → Option BookFault → Option BookFault
-or_else None next = next
-or_else (Some f) next = Some f
-
-abbrev pub when : Bool → BookFault → Option BookFault
-when true f = Some f
-when false f = None
-
+-- The refusal of a word that is too large.
 abbrev pub too_large : Option ℕ → Option BookFault
 too_large None = None
 too_large (Some w) = Some (WordTooLarge w)

@@ -9,17 +9,13 @@ use Rattle.distance.specs.Column.{column}
 use Rattle.elimination.specs.declared.four.Four.{Four}
 use Rattle.elimination.specs.declared.system.Equation.{Equation}
 use Rattle.elimination.specs.Equations.{at, coefficient, right}
+use Rattle.elimination.specs.Places.{place, made}
 use Rattle.restore.specs.Restored.{absent}
 
 module _ {K : Type 0} (s : Structure K) where
   -- Four sums with a multiple of a column added.
   abbrev pub multiple_added : Four (Ext K) → Four (Ext K) → Ext K → Four (Ext K)
-  multiple_added x y by = record {
-    a = (extend s).plus x.a ((extend s).times y.a by);
-    b = (extend s).plus x.b ((extend s).times y.b by);
-    c = (extend s).plus x.c ((extend s).times y.c by);
-    d = (extend s).plus x.d ((extend s).times y.d by);
-  }
+  multiple_added x y by = made (λ k. (extend s).plus (place x k) ((extend s).times (place y k) by))
 
   -- The word of a present bay as an element, and zero for an absent one.
   abbrev pub known : List ℕ → List ℕ → ℕ → Ext K

@@ -7,30 +7,23 @@ ghost use Rattle.elimination.specs.Places.{place};
 ghost use Rattle.restore.specs.Restored.{absent};
 ghost use Rattle.restore.specs.Absences.{Absences};
 
+use arrayvec::ArrayVec;
 use elimination::Four;
 use extension::Ext;
 use field::{BaseField, Field};
 
 // The absent bays in rising order.
-#[derive(Clone, Copy)]
-pub(crate) struct Absent {
-    pub(crate) bays: [usize; 4],
-    pub(crate) count: usize,
-}
-
-pub(crate) fn absent_bays(marks: &[u8]) -> Absent
+pub(crate) fn absent_bays(marks: &[u8]) -> ArrayVec<usize, 4>
     requires { tally (absent marks.now) (length marks.now) ≤ 4 }
-    ensures { Absences (absent marks.now) (length marks.now) result.count result.bays }
+    ensures { Absences (absent marks.now) (length marks.now) result.items }
 {
-    let mut bays = [0; 4];
-    let mut count = 0;
+    let mut bays = ArrayVec::new();
     for (bay, mark) in marks.iter().enumerate() {
         if *mark != 0 {
-            bays[count] = bay;
-            count += 1;
+            bays.push(bay);
         }
     }
-    Absent { bays, count }
+    bays
 }
 
 // The column of a bay: for each check word, what the bay's word is multiplied by in it.
@@ -39,7 +32,7 @@ pub(crate) fn column<F: BaseField>(bay: usize) -> Four<Ext<F>>
     ensures { (k : ℕ) → k < 4 → place result k ≡ column_of F.Field.structure bay k }
 {
     if bay < 4 {
-        return Four::all(Ext::zero()).with(bay, Ext::one());
+        return Four::from_fn(|k| if k == bay { Ext::one() } else { Ext::zero() });
     }
     let h = Ext {
         lo: F::from_number((bay - 4) as u32).unwrap(),

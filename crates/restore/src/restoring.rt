@@ -7,8 +7,8 @@ ghost use Rattle.restore.specs.Absences.{Absences};
 ghost use Rattle.restore.specs.Restored.{absent as absent_by, refusal, Restored, Admitted};
 ghost use Rattle.restore.specs.System.{multiple_added, present_sum, Asks, Placed};
 
-use crate::bays::{Absent, absent_bays, column};
-use crate::refusals::why_refused;
+use crate::bays::{absent_bays, column};
+use crate::refusals::admit;
 use elimination::{Equation, Four, equations, solve};
 use extension::Ext;
 use fault::fault::BookFault;
@@ -18,12 +18,7 @@ use field::{BaseField, Field};
 fn add_multiple<F: BaseField>(sums: Four<Ext<F>>, column: Four<Ext<F>>, by: Ext<F>) -> Four<Ext<F>>
     ensures { result ≡ multiple_added F.Field.structure sums column by }
 {
-    Four {
-        a: sums.a.plus(column.a.times(by)),
-        b: sums.b.plus(column.b.times(by)),
-        c: sums.c.plus(column.c.times(by)),
-        d: sums.d.plus(column.d.times(by)),
-    }
+    Four::from_fn(|k| sums[k].plus(column[k].times(by)))
 }
 
 // What the present words add to each check word.
@@ -31,10 +26,10 @@ fn present_sums<F: BaseField>(words: &[u16], marks: &[u8]) -> Four<Ext<F>>
     requires { Admitted F.Field.structure words.now marks.now }
     ensures { (k : ℕ) → k < 4 → place result k ≡ present_sum F.Field.structure words.now marks.now k }
 {
-    let mut sums = Four::all(Ext::zero());
-    for bay in 0..words.len() {
-        if marks[bay] == 0 {
-            let word = Ext::<F>::from_number(words[bay] as u32).unwrap();
+    let mut sums = Four::from_fn(|_| Ext::zero());
+    for (bay, (word, mark)) in words.iter().zip(marks).enumerate() {
+        if *mark == 0 {
+            let word = Ext::<F>::from_number(u32::from(*word)).unwrap();
             sums = add_multiple(sums, column(bay), word);
         }
     }
@@ -42,59 +37,48 @@ fn present_sums<F: BaseField>(words: &[u16], marks: &[u8]) -> Four<Ext<F>>
 }
 
 // The column of an unknown: that of its absent bay, and zeros where there is none.
-fn unknown_column<F: BaseField>(absent: Absent, unknown: usize) -> Four<Ext<F>>
-    requires four { (length absent.bays ≡ 4) × (absent.count ≤ 4) }
-    requires below { (j : ℕ) → j < absent.count → slice_index absent.bays j < size F.Field.structure + 4 }
-    ensures { unknown < absent.count → (k : ℕ) → k < 4 → place result k ≡ column_of F.Field.structure (slice_index absent.bays unknown) k }
+fn unknown_column<F: BaseField>(absent: &[usize], unknown: usize) -> Four<Ext<F>>
+    requires { (j : ℕ) → j < length absent.now → slice_index absent.now j < size F.Field.structure + 4 }
+    ensures { unknown < length absent.now → (k : ℕ) → k < 4 → place result k ≡ column_of F.Field.structure (slice_index absent.now unknown) k }
 {
-    if unknown < absent.count {
-        column(absent.bays[unknown])
-    } else {
-        Four::all(Ext::zero())
+    match absent.get(unknown) {
+        Some(bay) => column(*bay),
+        None => Four::from_fn(|_| Ext::zero()),
     }
 }
 
 // The four equations of the absent words.
-fn system<F: BaseField>(words: &[u16], marks: &[u8], absent: Absent) -> Four<Equation<Ext<F>>>
+fn system<F: BaseField>(words: &[u16], marks: &[u8], absent: &[usize]) -> Four<Equation<Ext<F>>>
     requires admitted { Admitted F.Field.structure words.now marks.now }
-    requires listed { Absences (absent_by marks.now) (length words.now) absent.count absent.bays }
-    ensures { Asks F.Field.structure words.now marks.now absent.bays absent.count result }
+    requires listed { Absences (absent_by marks.now) (length words.now) absent.now }
+    ensures { Asks F.Field.structure words.now marks.now absent.now (length absent.now) result }
 {
-    let sums = present_sums::<F>(words, marks);
-    let columns = Four {
-        a: unknown_column::<F>(absent, 0),
-        b: unknown_column::<F>(absent, 1),
-        c: unknown_column::<F>(absent, 2),
-        d: unknown_column::<F>(absent, 3),
-    };
-    equations(columns, sums)
+    let columns = Four::from_fn(|unknown| unknown_column::<F>(absent, unknown));
+    equations(columns, present_sums::<F>(words, marks))
 }
 
 // Puts the words of the unknowns into the absent bays.
-fn fill<F: BaseField>(words: &mut [u16], absent: Absent, found: Four<Ext<F>>)
-    requires four { (length absent.bays ≡ 4) × (absent.count ≤ 4) }
-    requires below { (j : ℕ) → j < absent.count → slice_index absent.bays j < length words.old }
-    requires rising { (i j : ℕ) → i < j → j < absent.count → slice_index absent.bays i < slice_index absent.bays j }
-    ensures { Placed F.Field.structure words.old absent.bays absent.count found words.new }
+fn fill<F: BaseField>(words: &mut [u16], absent: &[usize], found: Four<Ext<F>>)
+    requires few { length absent.now ≤ 4 }
+    requires below { (j : ℕ) → j < length absent.now → slice_index absent.now j < length words.old }
+    requires rising { (i j : ℕ) → i < j → j < length absent.now → slice_index absent.now i < slice_index absent.now j }
+    ensures { Placed F.Field.structure words.old absent.now (length absent.now) found words.new }
 {
-    for j in 0..absent.count {
-        words[absent.bays[j]] = found.get(j).number() as u16;
+    for (j, bay) in absent.iter().enumerate() {
+        words[*bay] = found[j].number() as u16;
     }
 }
 
 // Restores the words of the absent bays, those whose mark is not zero, so that the words are a codeword.
+// Two lists, and marks of bytes: the code's rules refuse lists of different lengths, and pairs or `bool`s would ask more of callers.
 pub fn restore<F: BaseField>(words: &mut [u16], marks: &[u8]) -> Result<(), BookFault>
     ensures { Restored F.Field.structure (refusal F.Field.structure words.old marks.now) words.old marks.now result words.new }
 {
-    if let Some(fault) = why_refused::<F>(words, marks) {
-        return Err(fault);
-    }
+    admit::<F>(words, marks)?;
     let absent = absent_bays(marks);
-    match solve(system::<F>(words, marks, absent), absent.count) {
-        Ok(found) => {
-            fill(words, absent, found);
-            Ok(())
-        }
-        Err(_) => Err(BookFault::NoCodeword),
-    }
+    let bays = absent.as_slice();
+    let system = system::<F>(words, marks, bays);
+    let found = solve(system, bays.len()).map_err(|_| BookFault::NoCodeword)?;
+    fill(words, bays, found);
+    Ok(())
 }

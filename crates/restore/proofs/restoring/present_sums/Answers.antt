@@ -1,25 +1,73 @@
-use Rattle.std.proofs.Common.{◌≡◌, true, false, get_or, sym, ◌∙◌, arith}
+-- Each turn passes a bay, and adds its multiple where it is present.
+use Rattle.std.proofs.Common.{◌≡◌, ◌+◌, true, false, drop, get_or, length, refl, sym, ap, subst, ◌∙◌, inl, inr, rules, arith, length-drop}
 use Rattle.std.proofs.lemmas.Bool.Decides.{nat_tests}
 use Rattle.extension.specs.Extend.{extend}
 use Rattle.field.proofs.Made.{taken}
+use Rattle.distance.specs.Column.{column}
 use Rattle.restore.specs.Restored.{absent}
-use Rattle.restore.proofs.PresentSums.{sums_none, sums_take, sums_skip}
+use Rattle.restore.proofs.PresentSums.{Sums, sums_none, sums_take, sums_skip, drop_head}
 use Rattle.restore.proofs.restoring.present_sums.Goals as goal
-use Rattle.restore.proofs.restoring.present_sums.Goals.{then-marks-bay-eq0, else-marks-bay-eq0}
 
 pub loop-bay-init : goal.loop-bay-init
-loop-bay-init g c = sums_none g.F.Field.structure c.args.words.now c.args.marks.now c.all-sums.result c.zero.result c.all-sums.ensures c.zero.ensures
+loop-bay-init g c =
+    let none : c.into_iter-bay-iterator.result.count ≡ 0 = cc in
+    record {
+      sums = subst (λ n. Sums g.F.Field.structure c.args.words.now c.args.marks.now n c.from_fn-sums.result) (sym none)
+          (sums_none g.F.Field.structure c.args.words.now c.args.marks.now c.from_fn-sums.result (λ k h. let made = c.from_fn-sums.ensures k h in search rules));
+      within = omega arith;
+      words_left = rw none (cc);
+      marks_left = rw none (cc);
+    }
 
 pub loop-bay-preserved : goal.loop-bay-preserved
 loop-bay-preserved g c =
     let s = g.F.Field.structure in
     let words = c.args.words.now in
     let marks = c.args.marks.now in
-    let bay = c.loop-bay.bay in
-    let sofar = c.loop-bay.invariant in
-    elim c.if-marks-bay-eq0.branch [
-      | then-marks-bay-eq0 w ↦ let here : absent marks bay ≡ false = grind (arith, nat_tests) in
-          sums_take s words marks bay _ _ sofar here w.column.result w.column.ensures w.unwrap-word.result
-          (taken (extend s) (get_or words bay 0) w.unwrap-word.result (sym w.unwrap-word.ensures ∙ w.from_number.ensures)).1 (w.sums-is ∙ w.add_multiple-sums.ensures)
-      | else-marks-bay-eq0 w ↦ let gone : absent marks bay ≡ true = grind (arith, nat_tests) in sums_skip s words marks bay _ _ sofar gone w.sums-is
-    ]
+    let n = c.loop-bay.bay-iterator.count in
+    let steps = c.in-Some.ensures.steps in
+    let word = drop_head n words c.next.new.self.iter.a.rest.now c.in-Some.word.now (sym c.loop-bay.invariant.words_left ∙ steps.0.0) in
+    let mark = drop_head n marks c.next.new.self.iter.b.rest.now c.in-Some.mark.now (sym c.loop-bay.invariant.marks_left ∙ steps.0.1) in
+    let next : c.next.new.self.count ≡ n + 1 = steps.2 in
+    let gone : absent marks n ≡ true = grind (arith, nat_tests) in
+    record {
+      sums = subst (λ n. Sums s words marks n c.loop-bay.sums) (sym next) (sums_skip s words marks n _ _ c.loop-bay.invariant.sums gone refl);
+      within = omega (arith, next, word.0);
+      words_left = word.2 ∙ ap (λ k. drop k words) (sym next);
+      marks_left = mark.2 ∙ ap (λ k. drop k marks) (sym next);
+    }
+
+pub loop-bay-preserved-then-mark-eq0 : goal.loop-bay-preserved-then-mark-eq0
+loop-bay-preserved-then-mark-eq0 g c =
+    let s = g.F.Field.structure in
+    let words = c.args.words.now in
+    let marks = c.args.marks.now in
+    let n = c.loop-bay.bay-iterator.count in
+    let steps = c.in-Some.ensures.steps in
+    let word = drop_head n words c.next.new.self.iter.a.rest.now c.in-Some.word.now (sym c.loop-bay.invariant.words_left ∙ steps.0.0) in
+    let mark = drop_head n marks c.next.new.self.iter.b.rest.now c.in-Some.mark.now (sym c.loop-bay.invariant.marks_left ∙ steps.0.1) in
+    let next : c.next.new.self.count ≡ n + 1 = steps.2 in
+    let here : absent marks n ≡ false = grind (arith, nat_tests) in
+    let number : c.from.result ≡ get_or words n 0 = cc in
+    let element = (taken (extend s) c.from.result c.unwrap-word.result (sym c.unwrap-word.ensures ∙ c.from_number.ensures)).1 ∙ ap (extend s).of number in
+    record {
+      sums = subst (λ n. Sums s words marks n c.add_multiple-sums.result) (sym next)
+          (sums_take s words marks n _ _ c.loop-bay.invariant.sums here c.column.result (λ k h. c.column.ensures k h ∙ ap (λ b. column s b k) steps.1)
+          c.unwrap-word.result element c.add_multiple-sums.ensures);
+      within = omega (arith, next, word.0);
+      words_left = word.2 ∙ ap (λ k. drop k words) (sym next);
+      marks_left = mark.2 ∙ ap (λ k. drop k marks) (sym next);
+    }
+
+pub returns : goal.returns
+returns g c =
+    let s = g.F.Field.structure in
+    let words = c.args.words.now in
+    let marks = c.args.marks.now in
+    let n = c.loop-bay.bay-iterator.count in
+    let so = c.loop-bay.invariant in
+    let all : n ≡ length words = elim c.in-None.ensures.steps.0 [
+      | inl none ↦ omega (arith, so.within, none.1.0, ap length so.words_left, length-drop n words)
+      | inr none ↦ omega (arith, so.within, none.1.0, ap length so.marks_left, length-drop n marks, c.requires.marked)
+    ] in
+    subst (λ k. Sums s words marks k c.loop-bay.sums) all so.sums
