@@ -32,21 +32,13 @@ fn codeword<F: BaseField>(heap: Global, items: &[u16]) -> anyhow::Result<Vec<u16
 
 fn show<F: BaseField>(rt: &HostRuntime, items: &[u16]) -> anyhow::Result<()> {
     let words = codeword::<F>(rt.alloc(), items)?;
-    let bays = words.len();
     print!(rt; "codeword")?;
     for word in words.iter() {
         print!(rt; " {word}")?;
     }
     println!(rt; "")?;
-    let mut marks = vec![in rt.alloc(); 0u8; bays]?;
-    let mut work = vec![in rt.alloc(); 0u16; bays]?;
-    let most = most_absent(bays);
-    let Tally { sets, whole } = strike_out::<F>(
-        words.as_slice(),
-        marks.as_mut_slice(),
-        work.as_mut_slice(),
-        most,
-    );
+    let most = most_absent(words.len());
+    let Tally { sets, whole } = strike_out::<F>(rt.alloc(), words.as_slice(), most)?;
     println!(rt; "of {sets} sets of at most {most} absent bays, {whole} came back whole")?;
     Ok(())
 }
