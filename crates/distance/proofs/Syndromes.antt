@@ -15,11 +15,11 @@ use Rattle.distance.specs.Theorems.{BySyndromes}
 use Rattle.distance.proofs.Cramer.{below_four}
 use Rattle.distance.proofs.Chosen.{spread, spread_sum}
 
-basis_self : {K : Type 0} (o : Ops K) (b : ℕ) → basis o b b ≡ o.one
+pub basis_self : {K : Type 0} (o : Ops K) (b : ℕ) → basis o b b ≡ o.one
 basis_self o zero = refl
 basis_self o (suc b) = basis_self o b
 
-basis_other : {K : Type 0} (o : Ops K) (b r : ℕ) → (b ≡ r → ⊥) → basis o b r ≡ o.zero
+pub basis_other : {K : Type 0} (o : Ops K) (b r : ℕ) → (b ≡ r → ⊥) → basis o b r ≡ o.zero
 basis_other o zero zero n = absurd (n refl)
 basis_other o zero (suc r) n = refl
 basis_other o (suc b) zero n = refl
@@ -30,7 +30,7 @@ powers_are s x zero = refl
 powers_are s x (suc r) = ap (λ p. s.times p x) (powers_are s x r)
 
 module _ {K : Type 0} (s : Structure K) where
-  check_column : (b : ℕ) → b < 4 → (r : ℕ) → column s b r ≡ basis (ops (extend s)) b r
+  pub check_column : (b : ℕ) → b < 4 → (r : ℕ) → column s b r ≡ basis (ops (extend s)) b r
   check_column = below_four (λ b. (r : ℕ) → column s b r ≡ basis (ops (extend s)) b r) (λ r. refl) (λ r. refl) (λ r. refl) (λ r. refl)
 
   item_column : (i r : ℕ) → column s (i + 4) r ≡ power (extend s) (point s i) r

@@ -22,9 +22,9 @@ fn arguments(rt: &HostRuntime) -> anyhow::Result<Vec<u16>> {
 // The check words of the items, and the items.
 fn codeword<F: BaseField>(heap: Global, items: &[u16]) -> anyhow::Result<Vec<u16>> {
     let mut checks = [0u16; 4];
-    if line_code::encode::<F>(items, &mut checks).is_err() {
-        return Err(anyhow!("these items are no line over this field"));
-    }
+    line_code::encode::<F>(items, &mut checks).map_err(|_| anyhow!(
+        "these items are no line over this field"
+    ))?;
     let mut words = Vec::from_slice(heap, &checks)?;
     words.extend_from_slice(items)?;
     Ok(words)

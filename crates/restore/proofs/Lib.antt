@@ -3,4 +3,3 @@ mod Counting
 mod Filling
 mod PresentSums
 mod Solving
-mod Columns

@@ -1,14 +1,19 @@
--- Of a check bay the column has one in its own row.
-use Rattle.std.proofs.Common.{sym, ◌∙◌, rules}
+-- Of a check bay the column has one in its own row, and zero in the others.
+use Rattle.std.proofs.Common.{sym, ap, ◌∙◌, rules}
 use native.Mathlib.Decide.{ℕ_discrete}
-use Rattle.restore.proofs.Columns.{column_same, column_other}
+use Rattle.field.specs.Structure.{ops}
+use Rattle.extension.specs.Extend.{extend}
+use Rattle.distance.specs.Column.{basis}
+use Rattle.distance.proofs.Syndromes.{basis_self, basis_other, check_column}
 use Rattle.restore.proofs.bays.column.Goals as goal
 
 pub returns-then-bay-lt4 : goal.returns-then-bay-lt4
 returns-then-bay-lt4 g c k h =
     let s = g.F.Field.structure in
+    let bay = c.args.bay in
     let made = c.from_fn.ensures k h in
-    elim (ℕ_discrete k c.args.bay) [
-      | yes e ↦ (search rules) ∙ sym (column_same s c.args.bay k c.if-bay-lt4.true e)
-      | no n ↦ (search rules) ∙ sym (column_other s c.args.bay k c.if-bay-lt4.true n)
+    let vector = check_column s bay c.if-bay-lt4.true k in
+    elim (ℕ_discrete k bay) [
+      | yes e ↦ (search rules) ∙ sym (vector ∙ ap (basis (ops (extend s)) bay) e ∙ basis_self (ops (extend s)) bay)
+      | no n ↦ (search rules) ∙ sym (vector ∙ basis_other (ops (extend s)) bay k (λ e. n (sym e)))
     ]
