@@ -130,6 +130,7 @@ fn clear<F: Field>(rows: Four<Equation<F>>, p: usize) -> Four<Equation<F>>
     })
 }
 
+// A loop: each round starts from the rows of the one before it, and n is at once the round's row and its column.
 fn eliminate<F: Field>(mut rows: Four<Equation<F>>, unknowns: usize) -> Option<Four<Equation<F>>>
     requires { unknowns ≤ 4 }
     ensures { Eliminated F.Field.structure rows unknowns result }

@@ -35,6 +35,7 @@ impl<'a> Trials<'a> {
         if more == 0 {
             return;
         }
+        // By index: while the bay is marked, all marks are lent to the sets below it.
         for bay in 0..end.min(marks.len()) {
             marks[bay] = 1;
             self.strike_below::<F>(marks, bay, more - 1);
