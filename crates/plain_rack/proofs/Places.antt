@@ -15,6 +15,9 @@ use Rattle.plain_rack.specs.Shape.{fresh}
 pub row_below : (lines a b : ℕ) → a < b → a * lines + lines ≤ b * lines
 row_below lines a b h = row_fits a lines b lines h (omega arith)
 
+pub place_within : (bays lines bay line : ℕ) → bay < bays → line < lines → place_of lines bay line < bays * lines
+place_within bays lines bay line h k = omega (arith, row_below lines bay bays h)
+
 -- Each bay and line has a place of its own.
 place_test : (lines b l bay line : ℕ) → l < lines → line < lines → eqb (place_of lines b l) (place_of lines bay line) ≡ (eqb b bay && eqb l line)
 place_test lines b l bay line h k = grind (arith, nat_tests, row_below lines b bay, row_below lines bay b)
@@ -42,7 +45,7 @@ module _ (bays lines : ℕ) (ss : List Bool) (ws : List ℕ) where
     where
       word_at : (b l : ℕ) → word_in bays lines (set ws (place_of lines bay line) w) b l ≡ cond (eqb b bay && eqb l line) w (word_in bays lines ws b l)
       word_at b l =
-          let p : place_of lines bay line < length ws = omega (arith, row_below lines bay bays h) in
+          let p : place_of lines bay line < length ws = omega (arith, place_within bays lines bay line h k) in
           grind (arith, nat_tests, get_or_set ws (place_of lines bay line) (place_of lines b l) w 0 p, place_test lines b l bay line)
 
   -- A bay that is switched on and holds v in each line.
