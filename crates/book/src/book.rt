@@ -98,6 +98,7 @@ impl<F: BaseField> Book<F> {
         Ok(())
     }
 
+    // The rack and the worksheet stay apart here and below: a struct of two borrows would be made anew for each call.
     // The word of an item in a line: from its own bay where that is present, which is one read, otherwise from the restored line.
     pub fn get<R: Reading>(
         &self,

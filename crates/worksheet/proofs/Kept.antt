@@ -1,5 +1,5 @@
 -- The line that fits the kept words: it exists, so restoring them is not refused. Assumes nothing.
-use Rattle.std.proofs.Common.{◌≡◌, ℕ, suc, ◌+◌, ◌-◌, ◌<◌, ◌≤◌, Bool, true, false, not, ◌||◌, eqb, ltb, List, [], ◌∷◌, map, length, get_or, take, None, Ok, Err, Result, sym, refl, ap, ◌∙◌, subst, arith, length-take-le, get_or-take}
+use Rattle.std.proofs.Common.{◌≡◌, ℕ, suc, ◌+◌, ◌-◌, ◌<◌, ◌≤◌, Bool, true, false, not, eqb, List, [], ◌∷◌, map, length, get_or, take, None, Ok, Err, Result, sym, refl, ap, ◌∙◌, subst, arith, length-take-le, get_or-take}
 use borrow.Author.Tests.{not-false}
 use Rattle.std.specs.List.{range_with_len}
 use Rattle.std.proofs.lemmas.List.FromFn.{get_or-map-range_with_len}
@@ -26,20 +26,8 @@ none_large bound (w ∷ ws) (m ∷ ms) small =
 -- lists that are not refused
 admitted_none : {K : Type 0} (s : Structure K) (bays marks : List ℕ) → Admitted s bays marks → refusal s bays marks ≡ None
 admitted_none s bays marks ok =
-    let sized : (ltb (length bays) 5 || ltb (size s + 4) (length bays)) ≡ false = sizes (length bays) (size s + 4) ok.some ok.fits in
-    let paired : not (eqb (length marks) (length bays)) ≡ false = pairs (length marks) (length bays) ok.marked in
     let small : first_large (count_words s) bays marks ≡ None = none_large (count_words s) bays marks ok.small in
-    let few : ltb 4 (count (absent marks) (length bays)) ≡ false = least (count (absent marks) (length bays)) ok.few in
-    rw (sized, paired, small, few)
-  where
-    sizes : (a b : ℕ) → 5 ≤ a → a ≤ b → (ltb a 5 || ltb b a) ≡ false
-    sizes a b h k = grind (arith, nat_tests)
-
-    pairs : (a b : ℕ) → a ≡ b → not (eqb a b) ≡ false
-    pairs a b e = grind (arith, nat_tests)
-
-    least : (a : ℕ) → a ≤ 4 → ltb 4 a ≡ false
-    least a h = grind (arith, nat_tests)
+    grind (arith, nat_tests)
 
 -- Words that are made whole, since a line fits them.
 made_whole : {K : Type 0} (s : Structure K) (bays marks : List ℕ) (r : Result (Unit {0}) BookFault) (after : List ℕ)

@@ -51,6 +51,7 @@ pub(crate) fn survey<F: BaseField, R: Reading>(
 {
     let mut found = [None; MOST_BAYS];
     let mut wanted = items;
+    // No chain: its closure would hold the rack for writing, and no clause would say what it gave.
     for bay in (0..items + 4).rev() {
         if wanted > 0 {
             if let Some(word) = present_word::<F, R>(rack, behind, bay, line) {

@@ -45,6 +45,7 @@ pub fn restore_line<F: BaseField, R: Reading>(
     if absent > 4 {
         return Err(BookFault::TooManyAbsent(absent));
     }
+    // `restore` takes the words and the marks in two lists.
     let words = found.map(|word| word.unwrap_or(0));
     let marks = found.map(|word| u8::from(word.is_none()));
     sheet[..bays].copy_from_slice(&words[..bays]);
