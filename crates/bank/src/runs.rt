@@ -53,17 +53,15 @@ impl fmt::Display for NotStarted {
     fn fmt<W: fmt::Write>(&self, f: &mut fmt::Formatter<W>) -> fmt::Result {
         match self {
             NotStarted::Memory => write!(f, "no memory"),
-            NotStarted::Refused(fault) => {
-                let fault = Fault::from(*fault);
-                write!(f, "no {fault}")
-            }
+            NotStarted::Refused(fault) => write!(f, "no {}", Fault::from(*fault)),
         }
     }
 }
 
 impl Error for NotStarted {}
 
-// Whoever looks at the drawer and the rack between the calls. A closure in its place would need a `requires` that it may be called.
+// Whoever looks at the drawer and the rack between the calls. A closure in its place would ask more of callers, by a `requires`
+// that it may be called.
 pub trait Watch<F: BaseField, R> {
     ghost sees: { Self → DrawerOf F → R → Self → Type 0 };
 

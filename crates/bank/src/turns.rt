@@ -10,8 +10,8 @@ use ledger::Answer;
 use rack::sides::{Reading, Serving};
 
 // Makes one call, whatever the drawer: the drawer after it, and the answer. Whatever ledger the book and the rack stood by, the
-// answer is that ledger's, and they stand by it after the call. The three are no struct: callers look at the rack between the
-// calls, and lend a worksheet of their own.
+// answer is that ledger's, and they stand by it after the call. Drawer, rack and worksheet are no struct: callers look at the
+// rack between the calls, and lend a worksheet of their own.
 pub fn turn<F: BaseField, R: Serving>(
     drawer: Drawer<F>,
     rack: &mut R,
