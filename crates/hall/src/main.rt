@@ -1,13 +1,9 @@
 // Plays the round file on standard input, and prints a line for each frame.
 #![tactic(auto)]
 
-fn run(rt: &HostRuntime) -> anyhow::Result<()> {
+fn main(rt: HostRuntime) -> anyhow::Result<()> {
     let file = input::read_round(rt.alloc(), rt.stdin())?;
     let text = play::play(rt.alloc(), file.as_slice())?;
     rt.print(text)?;
     Ok(())
-}
-
-fn main(rt: HostRuntime) -> anyhow::Result<()> {
-    run(&rt)
 }

@@ -14,7 +14,7 @@ use fault::fault::{Fault, FileFault};
 use field::{BaseField, Gf4};
 use replies::{Reply, add_line};
 use round::rounds::{Placed, Round};
-use round::tasks::{Phase, Task, not_now, task_of};
+use round::tasks::{BankSize, Phase, Task, not_now, task_of};
 use serve::{Hall, NotServed, serve};
 use std::alloc::{AllocError, Global};
 use table_field::Table256;
@@ -33,19 +33,18 @@ impl<F: BaseField> Watch<F, Hall> for Nobody {
 fn open(
     heap: Global,
     placed: Placed<'_>,
-    items: u16,
-    lines: u16,
+    size: BankSize,
     field: u16,
     round: &mut Round<'_>,
     text: &mut String,
 ) -> Result<(), NotServed>
-    ensures { MatchResult result (λ _. (why_open placed.entry.offset items lines field ≡ None) × PlayedOn placed.entry.number done round.old (serving (first_ledger field items lines)) (string_bytes text.old) (string_bytes text.new)) (Unserved (why_open placed.entry.offset items lines field) ((round.new ≡ round.old) × (text.new ≡ text.old))) }
+    ensures { MatchResult result (λ _. (why_open placed.entry.offset size.items size.lines field ≡ None) × PlayedOn placed.entry.number done round.old (serving (first_ledger field size.items size.lines)) (string_bytes text.old) (string_bytes text.new)) (Unserved (why_open placed.entry.offset size.items size.lines field) ((round.new ≡ round.old) × (text.new ≡ text.old))) }
 {
     let number = placed.number;
     match field {
-        4 => serve::<Gf4, Nobody>(heap, number, items, lines, round, text, &mut Nobody),
-        16 => serve::<Gf16, Nobody>(heap, number, items, lines, round, text, &mut Nobody),
-        256 => serve::<Table256, Nobody>(heap, number, items, lines, round, text, &mut Nobody),
+        4 => serve::<Gf4, Nobody>(heap, number, size, round, text, &mut Nobody),
+        16 => serve::<Gf16, Nobody>(heap, number, size, round, text, &mut Nobody),
+        256 => serve::<Table256, Nobody>(heap, number, size, round, text, &mut Nobody),
         _ => Err(NotServed::Refused(Fault::from(FileFault::NoField(placed.offset)))),
     }
 }
@@ -62,14 +61,10 @@ fn begin<'a>(
     match task_of(Phase::Waiting, placed) {
         Task::Reply(reply) => Ok(Some(reply)),
         Task::Call(_) => Ok(Some(not_now(placed.offset))),
-        Task::Start {
-            items,
-            lines,
-            field,
-        } => match open(heap, placed, items, lines, field, round, text) {
+        Task::Start { size, field } => match open(heap, placed, size, field, round, text) {
             Ok(()) => Ok(None),
             Err(NotServed::Refused(fault)) => Ok(Some(Reply::Refused(fault))),
-            Err(NotServed::Memory) => Err(AllocError),
+            Err(NotServed::Memory(error)) => Err(error),
         },
     }
 }
@@ -80,11 +75,12 @@ pub fn play(heap: Global, file: &[u8]) -> Result<String, AllocError>
 {
     let mut text = String::new(heap);
     let mut round = Round::new(file);
-    while let Some(placed) = round.read() {
+    // No `for`: each frame may take the rest of the round with it.
+    while let Some(placed) = round.next() {
         let Some(reply) = begin(heap, placed, &mut round, &mut text)? else {
             return Ok(text);
         };
-        add_line(heap, &mut text, placed.number, reply)?;
+        add_line(&mut text, placed.number, reply)?;
     }
     Ok(text)
 }

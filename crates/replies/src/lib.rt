@@ -6,7 +6,7 @@ ghost use Rattle.replies.specs.Lines.{said, said_text, line as line_of};
 
 use fault::fault::Fault;
 use listing::text::Printable;
-use std::alloc::{AllocError, Global};
+use std::alloc::AllocError;
 use std::fmt;
 
 // The reply to a frame. A note's text is borrowed from the file.
@@ -40,14 +40,8 @@ impl fmt::Display for Reply<'_> {
 }
 
 // Adds the line of a frame's reply to a text.
-pub fn add_line(
-    heap: Global,
-    text: &mut String,
-    number: usize,
-    reply: Reply<'_>,
-) -> Result<(), AllocError>
+pub fn add_line(text: &mut String, number: usize, reply: Reply<'_>) -> Result<(), AllocError>
     ensures { OnOk result (string_bytes text.new ≡ string_bytes text.old ++ line_of number (said reply.entry)) }
 {
-    let line = format!(in heap; "{number} {reply}\n")?;
-    text.push_str(line.as_str())
+    writeln!(text, "{number} {reply}")
 }

@@ -19,7 +19,7 @@ pub data Asked : Type 0 where
   say : Said → Asked
 
 abbrev pub asked : Task → Asked
-asked (Start items lines field) = open_hall items lines field
+asked (Start size field) = open_hall size.items size.lines field
 asked (CallTask c) = make c
 asked (Reply r) = say (said r)
 

@@ -1,5 +1,7 @@
 // The frames of a round, one after the other.
-ghost use Rattle.std.specs.Prelude.{◌≡◌};
+ghost use Rattle.std.specs.Prelude.{◌≡◌, length};
+ghost use Rattle.std.specs.Iterator.{at_most};
+ghost use Rattle.frame.specs.Reading.{bytes_left};
 ghost use Rattle.round.specs.Rounds.{file_in, here, Reads};
 
 use crate::rounds::{Placed, Round};
@@ -16,11 +18,17 @@ impl<'a> Round<'a> {
             number: 0,
         }
     }
+}
 
-    // The next frame, if there is one.
-    pub fn read(&mut self) -> Option<Placed<'a>>
-        ensures { Reads self.old result self.new }
-    {
+// The frames that are left, each with its number and its place.
+impl<'a> Iterator for Round<'a> {
+    type Item = Placed<'a>;
+
+    ghost next_gives = { Reads };
+
+    ghost remaining = { λ r. at_most (length (bytes_left r.reader)) };
+
+    fn next(&mut self) -> Option<Placed<'a>> {
         let number = self.number;
         let offset = self.reader.offset();
         let answer = self.reader.next()?;

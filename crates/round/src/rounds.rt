@@ -11,6 +11,7 @@ pub struct Round<'a> {
     pub(crate) reader: Reader<'a>,
     pub(crate) number: usize,
     ghost counted: { number ≤ reader.offset },
+    // What the type of the file says of it: the reader hides the file from this crate, and with it its type.
     ghost fits: { length reader.file.now < 2 ^ 64 },
     ghost bytes: { (i : ℕ) → slice_index reader.file.now i < 256 },
 }

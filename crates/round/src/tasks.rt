@@ -21,11 +21,18 @@ pub enum Phase {
     Open,
 }
 
+// How many items and lines a bank is to have.
+#[derive(Clone, Copy)]
+pub struct BankSize {
+    pub items: u16,
+    pub lines: u16,
+}
+
 // What is to be done about a frame.
 #[derive(Clone, Copy)]
 pub enum Task<'a> {
-    // A bank is to be opened.
-    Start { items: u16, lines: u16, field: u16 },
+    // A bank is to be opened, over the field with so many elements.
+    Start { size: BankSize, field: u16 },
     // A call is to be made to the bank.
     Call(Call),
     // Nothing but to reply.
@@ -54,8 +61,7 @@ fn task_of_frame<'a>(phase: Phase, offset: usize, frame: Frame<'a>) -> Task<'a>
                 field,
             },
         ) => Task::Start {
-            items,
-            lines,
+            size: BankSize { items, lines },
             field,
         },
         (

@@ -18,5 +18,5 @@ new_hall items lines = record { bays = items + 4; lines = lines; switch = λ bay
 
 -- It was refused by this, or there was no memory.
 abbrev pub Unserved : Option Fault → Type 0 → NotServed → Type 0
-Unserved why same Memory = Unit {0}
+Unserved why same (Memory error) = Unit {0}
 Unserved why same (Refused fault) = (why ≡ Some fault) × same

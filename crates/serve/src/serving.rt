@@ -1,7 +1,7 @@
 // A round from its start on.
 ghost use Rattle.std.specs.Prelude.{◌≡◌, ◌++◌, length, None, string_bytes, MatchResult, OnOk};
 ghost use Rattle.fault.specs.declared.fault.Fault.TheVariants.{Book as BookLayer, Rack as RackLayer};
-ghost use Rattle.field.specs.Structure.{size};
+ghost use Rattle.field.specs.Structure.{size as order_of};
 ghost use Rattle.bank.specs.Drawers.{known_of, open_bay};
 ghost use Rattle.frame.specs.Reading.{told};
 ghost use Rattle.replies.specs.Lines.{said, done, line as line_of};
@@ -21,7 +21,7 @@ use ledger::Answer;
 use rack::sides::{Reading, Serving};
 use replies::{Reply, add_line};
 use round::rounds::{Placed, Round};
-use round::tasks::{Phase, Task, not_now, task_of};
+use round::tasks::{BankSize, Phase, Task, not_now, task_of};
 use std::alloc::{AllocError, Global};
 
 // The worksheet has room for the words of the longest line.
@@ -29,15 +29,15 @@ const ROOM: usize = 260;
 
 // Why a round is not served to its end: there is no memory, or its start is refused.
 pub enum NotServed {
-    Memory,
+    Memory(AllocError),
     Refused(Fault),
 }
 
 impl From<AllocError> for NotServed {
-    ghost from_gives = { λ _ r. r ≡ Memory };
+    ghost from_gives = { λ x r. r ≡ Memory x };
 
-    fn from(_error: AllocError) -> NotServed {
-        NotServed::Memory
+    fn from(error: AllocError) -> NotServed {
+        NotServed::Memory(error)
     }
 }
 
@@ -64,13 +64,6 @@ fn phase<F: BaseField>(drawer: &Drawer<F>) -> Phase
         Drawer::Closed(_) => Phase::Closed,
         Drawer::Open(_) => Phase::Open,
     }
-}
-
-// The reply to a start that is accepted.
-fn accepted<'a>() -> Reply<'a>
-    ensures { said result ≡ done }
-{
-    Reply::Done
 }
 
 // The bank's answer as the reply to the frame at an offset.
@@ -121,7 +114,6 @@ fn show_call<F: BaseField, R: Serving, W: Watch<F, R>>(
 
 // Serves the rest of a round.
 fn serve_rest<F: BaseField, R: Serving, W: Watch<F, R>>(
-    heap: Global,
     drawer: Drawer<F>,
     rack: &mut R,
     watch: &mut W,
@@ -132,11 +124,11 @@ fn serve_rest<F: BaseField, R: Serving, W: Watch<F, R>>(
 {
     let mut drawer = drawer;
     let mut sheet = [0; ROOM];
-    while let Some(placed) = round.read() {
+    for placed in round {
         let (next, reply) = answer_frame(drawer, rack, &mut sheet, placed);
         drawer = next;
         show_call(watch, &drawer, rack, placed);
-        add_line(heap, text, placed.number, reply)?;
+        add_line(text, placed.number, reply)?;
     }
     Ok(())
 }
@@ -145,22 +137,21 @@ fn serve_rest<F: BaseField, R: Serving, W: Watch<F, R>>(
 pub fn serve<F: BaseField, W: Watch<F, Hall>>(
     heap: Global,
     number: usize,
-    items: u16,
-    lines: u16,
+    size: BankSize,
     round: &mut Round<'_>,
     text: &mut String,
     watch: &mut W,
 ) -> Result<(), NotServed>
-    ensures { MatchResult result (λ _. (why_hall (size F.Field.structure) items lines ≡ None) × Served F.Field.structure known_of open_bay hall_meaning W.Watch.sees (first_ledger (size F.Field.structure) items lines) round.old (string_bytes text.old ++ line_of number done) (string_bytes text.new) watch.old watch.new) (Unserved (why_hall (size F.Field.structure) items lines) ((round.new ≡ round.old) × (text.new ≡ text.old) × (watch.new ≡ watch.old))) }
+    ensures { MatchResult result (λ _. (why_hall (order_of F.Field.structure) size.items size.lines ≡ None) × Served F.Field.structure (known_of F.Field.structure) open_bay hall_meaning W.Watch.sees (first_ledger (order_of F.Field.structure) size.items size.lines) round.old (string_bytes text.old ++ line_of number done) (string_bytes text.new) watch.old watch.new) (Unserved (why_hall (order_of F.Field.structure) size.items size.lines) ((round.new ≡ round.old) × (text.new ≡ text.old) × (watch.new ≡ watch.old))) }
 {
-    let items = items as usize;
+    let items = size.items as usize;
     if items == 0 || items > F::order() as usize {
         return Err(NotServed::from(BookFault::ItemCount(items)));
     }
-    let mut hall = make_hall(heap, items, lines as usize)?;
+    let mut hall = make_hall(heap, items, size.lines as usize)?;
     let drawer = Drawer::Closed(Book::<F>::start(&mut hall, items)?);
     watch.look(&drawer, &hall);
-    add_line(heap, text, number, accepted())?;
-    serve_rest(heap, drawer, &mut hall, watch, round, text)?;
+    add_line(text, number, Reply::Done)?;
+    serve_rest(drawer, &mut hall, watch, round, text)?;
     Ok(())
 }

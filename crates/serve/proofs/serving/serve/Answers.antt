@@ -1,9 +1,8 @@
-use Rattle.std.proofs.Common.{◌≡◌, ℕ, ◌≤◌, List, ◌++◌, Some, None, string_bytes, Option, refl, ap, ◌∙◌, subst, arith}
+use Rattle.std.proofs.Common.{◌≡◌, ℕ, ◌≤◌, List, Some, None, string_bytes, Option, refl, ◌∙◌, subst, arith}
 use Rattle.fault.specs.declared.fault.BookFault.{BookFault}
 use Rattle.field.specs.Structure.{size}
 use Rattle.book.specs.Known.{knows}
 use Rattle.bank.specs.Drawers.{known_of, open_bay}
-use Rattle.replies.specs.Lines.{Said, line}
 use Rattle.round.specs.Replies.{first_ledger}
 use Rattle.serve.specs.Halls.{hall_meaning}
 use Rattle.serve.specs.Served.{Served}
@@ -13,16 +12,17 @@ use Rattle.serve.proofs.serving.serve.Goals as goal
 pub returns-in_err-start : goal.returns-in_err-start
 returns-in_err-start g c =
     let q = size g.F.Field.structure in
-    let some : 1 ≤ c.args.items = omega (arith, c.if-items-eq0.false) in
-    let few : c.args.items ≤ q = omega (arith, c.if-items-order.false, c.order.ensures) in
-    let never : ◌≡◌ {A = Option BookFault} (Some _) None = c.in_err-start.ensures.refused ∙ starts q c.args.items c.args.lines some few _ c.in_ok-hall.ensures.1 in
+    let items = c.args.size.items in
+    let some : 1 ≤ items = omega (arith, c.if-items-eq0.false) in
+    let few : items ≤ q = omega (arith, c.if-items-order.false, c.order.ensures) in
+    let never : ◌≡◌ {A = Option BookFault} (Some _) None = c.in_err-start.ensures.refused ∙ starts q items c.args.size.lines some few _ c.in_ok-hall.ensures.1 in
     absurd (grind arith)
 
 pub returns : goal.returns
 returns g c =
     let s = g.F.Field.structure in
-    let items = c.args.items in
-    let lines = c.args.lines in
+    let items = c.args.size.items in
+    let lines = c.args.size.lines in
     let some : 1 ≤ items = omega (arith, c.if-items-eq0.false) in
     let few : items ≤ size s = omega (arith, c.if-items-order.false, c.order.ensures) in
     let new = c.in_ok-hall.ensures.1 in
@@ -31,10 +31,9 @@ returns g c =
     let m' = hall_meaning c.start.new.rack in
     let k = knows c.in_ok-start.field-0 in
     let l = first_ledger (size s) items lines in
-    let sound = opening_sound s items lines some few m m' k new then.book then.rack in
-    let stands = opening_stands s items lines some few m m' k new then.book then.rack in
-    let text = c.in_ok-add_line.ensures ∙ ap (λ (x : Said). string_bytes c.args.text.now ++ line c.args.number x) c.accepted.ensures in (
+    let sound = opening_sound s items lines some few m m' k new then.0 then.1 in
+    let stands = opening_stands s items lines some few m m' k new then.0 then.1 in (
       hall_none (size s) items lines some few c.in_ok-hall.ensures.0,
-      subst (λ (t : List ℕ). Served s known_of open_bay hall_meaning g.W.Watch.sees l c.args.round.now t (string_bytes c.serve_rest.new.text) c.args.watch.now c.serve_rest.new.watch) text
+      subst (λ (t : List ℕ). Served s (known_of s) open_bay hall_meaning g.W.Watch.sees l c.args.round.now t (string_bytes c.serve_rest.new.text) c.args.watch.now c.serve_rest.new.watch) c.in_ok-add_line.ensures
           (c.in_ok-serve_rest.ensures l c.args.watch.now sound (λ i j. refl) stands c.look.ensures),
     )
