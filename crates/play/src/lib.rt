@@ -1,7 +1,7 @@
 // Playing a round file from its first frame to its last.
 #![tactic(auto)]
 
-ghost use Rattle.std.specs.Prelude.{◌≡◌, IfOk, None, string_bytes, MatchResult};
+ghost use Rattle.std.specs.Prelude.{◌≡◌, IfOk, IfErr, None, string_bytes, OnOk};
 ghost use Rattle.frame.specs.Reading.{told};
 ghost use Rattle.replies.specs.Lines.{done};
 ghost use Rattle.round.specs.Replies.{serving, first_ledger, why_open};
@@ -30,6 +30,7 @@ impl<F: BaseField> Watch<F, Hall> for Nobody {
 }
 
 // Opens a bank over the field that a start names, and plays the rest of the round.
+#[tactic(auto, unfolding(extension::specs::Extend::extend))]
 fn open(
     heap: Global,
     placed: Placed<'_>,
@@ -38,7 +39,13 @@ fn open(
     round: &mut Round<'_>,
     text: &mut String,
 ) -> Result<(), NotServed>
-    ensures { MatchResult result (λ _. (why_open placed.entry.offset size.items size.lines field ≡ None) × PlayedOn placed.entry.number done round.old (serving (first_ledger field size.items size.lines)) (string_bytes text.old) (string_bytes text.new)) (Unserved (why_open placed.entry.offset size.items size.lines field) ((round.new ≡ round.old) × (text.new ≡ text.old))) }
+    ensures accepted { OnOk result (why_open placed.entry.offset size.items size.lines field ≡ None) }
+    ensures played { let first = first_ledger field size.items size.lines in
+        OnOk result
+        (PlayedOn placed.entry.number done round.old (serving first) (string_bytes text.old) (string_bytes text.new)) }
+    ensures unserved { IfErr result
+        (Unserved (why_open placed.entry.offset size.items size.lines field)
+        ((round.new ≡ round.old) × (text.new ≡ text.old))) }
 {
     let number = placed.number;
     match field {
@@ -56,7 +63,9 @@ fn begin<'a>(
     round: &mut Round<'_>,
     text: &mut String,
 ) -> Result<Option<Reply<'a>>, AllocError>
-    ensures { IfOk result (λ x. Begun placed.entry.number placed.entry.offset (told placed.entry.answer) round.old (string_bytes text.old) x round.new (string_bytes text.new)) }
+    ensures { IfOk result
+        (λ x. Begun placed.entry.number placed.entry.offset (told placed.entry.answer) round.old (string_bytes text.old)
+        x round.new (string_bytes text.new)) }
 {
     match task_of(Phase::Waiting, placed) {
         Task::Reply(reply) => Ok(Some(reply)),

@@ -1,5 +1,5 @@
 // A round from its start on.
-ghost use Rattle.std.specs.Prelude.{◌≡◌, ◌++◌, length, None, string_bytes, MatchResult, OnOk};
+ghost use Rattle.std.specs.Prelude.{◌≡◌, ◌++◌, length, None, string_bytes, IfErr, OnOk};
 ghost use Rattle.fault.specs.declared.fault.Fault.TheVariants.{Book as BookLayer, Rack as RackLayer};
 ghost use Rattle.field.specs.Structure.{size as order_of};
 ghost use Rattle.bank.specs.Drawers.{known_of, open_bay};
@@ -86,7 +86,9 @@ fn answer_frame<'a, F: BaseField, R: Serving>(
     placed: Placed<'a>,
 ) -> (Drawer<F>, Reply<'a>)
     requires { length sheet.old ≡ room }
-    ensures { Answered F.Field.structure known_of open_bay R.Reading.meaning placed.entry.offset (told placed.entry.answer) drawer rack.old (said result.1) result.0 rack.new }
+    ensures { let s = F.Field.structure in
+        Answered s (known_of s) open_bay R.Reading.meaning placed.entry.offset (told placed.entry.answer)
+        drawer rack.old (said result.1) result.0 rack.new }
 {
     match task_of(phase(&drawer), placed) {
         Task::Call(call) => {
@@ -120,7 +122,10 @@ fn serve_rest<F: BaseField, R: Serving, W: Watch<F, R>>(
     round: &mut Round<'_>,
     text: &mut String,
 ) -> Result<(), AllocError>
-    ensures { OnOk result (Serves F.Field.structure known_of open_bay R.Reading.meaning W.Watch.sees drawer rack.old watch.old round.old (string_bytes text.old) (string_bytes text.new) watch.new) }
+    ensures { let s = F.Field.structure in
+        OnOk result
+        (Serves s (known_of s) open_bay R.Reading.meaning W.Watch.sees drawer rack.old watch.old round.old
+        (string_bytes text.old) (string_bytes text.new) watch.new) }
 {
     let mut drawer = drawer;
     let mut sheet = [0; ROOM];
@@ -142,13 +147,21 @@ pub fn serve<F: BaseField, W: Watch<F, Hall>>(
     text: &mut String,
     watch: &mut W,
 ) -> Result<(), NotServed>
-    ensures { MatchResult result (λ _. (why_hall (order_of F.Field.structure) size.items size.lines ≡ None) × Served F.Field.structure (known_of F.Field.structure) open_bay hall_meaning W.Watch.sees (first_ledger (order_of F.Field.structure) size.items size.lines) round.old (string_bytes text.old ++ line_of number done) (string_bytes text.new) watch.old watch.new) (Unserved (why_hall (order_of F.Field.structure) size.items size.lines) ((round.new ≡ round.old) × (text.new ≡ text.old) × (watch.new ≡ watch.old))) }
+    ensures accepted { OnOk result (why_hall (order_of F.Field.structure) size.items size.lines ≡ None) }
+    ensures served { let s = F.Field.structure in
+        let first = first_ledger (order_of s) size.items size.lines in
+        OnOk result
+        (Served s (known_of s) open_bay hall_meaning W.Watch.sees first round.old
+        (string_bytes text.old ++ line_of number done) (string_bytes text.new) watch.old watch.new) }
+    ensures unserved { IfErr result
+        (Unserved (why_hall (order_of F.Field.structure) size.items size.lines)
+        ((round.new ≡ round.old) × (text.new ≡ text.old) × (watch.new ≡ watch.old))) }
 {
     let items = size.items as usize;
     if items == 0 || items > F::order() as usize {
         return Err(NotServed::from(BookFault::ItemCount(items)));
     }
-    let mut hall = make_hall(heap, items, size.lines as usize)?;
+    let mut hall = make_hall(heap, size)?;
     let drawer = Drawer::Closed(Book::<F>::start(&mut hall, items)?);
     watch.look(&drawer, &hall);
     add_line(text, number, Reply::Done)?;

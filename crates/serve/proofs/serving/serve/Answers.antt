@@ -15,25 +15,28 @@ returns-in_err-start g c =
     let items = c.args.size.items in
     let some : 1 ≤ items = omega (arith, c.if-items-eq0.false) in
     let few : items ≤ q = omega (arith, c.if-items-order.false, c.order.ensures) in
-    let never : ◌≡◌ {A = Option BookFault} (Some _) None = c.in_err-start.ensures.refused ∙ starts q items c.args.size.lines some few _ c.in_ok-hall.ensures.1 in
+    let never : ◌≡◌ {A = Option BookFault} (Some _) None = c.in_err-start.ensures.refused ∙ starts q items c.args.size.lines some few _ c.in_ok-hall.ensures.new in
     absurd (grind arith)
 
-pub returns : goal.returns
-returns g c =
+pub returns-clause-accepted : goal.returns-clause-accepted
+returns-clause-accepted g c =
+    hall_none (size g.F.Field.structure) c.args.size.items c.args.size.lines (omega (arith, c.if-items-eq0.false))
+    (omega (arith, c.if-items-order.false, c.order.ensures)) c.in_ok-hall.ensures.accepted
+
+pub returns-clause-served : goal.returns-clause-served
+returns-clause-served g c =
     let s = g.F.Field.structure in
     let items = c.args.size.items in
     let lines = c.args.size.lines in
     let some : 1 ≤ items = omega (arith, c.if-items-eq0.false) in
     let few : items ≤ size s = omega (arith, c.if-items-order.false, c.order.ensures) in
-    let new = c.in_ok-hall.ensures.1 in
-    let then = c.in_ok-start.ensures in
+    let new = c.in_ok-hall.ensures.new in
+    let then = c.in_ok-start.ensures.then in
     let m = hall_meaning c.in_ok-hall.hall in
     let m' = hall_meaning c.start.new.rack in
     let k = knows c.in_ok-start.field-0 in
     let l = first_ledger (size s) items lines in
     let sound = opening_sound s items lines some few m m' k new then.0 then.1 in
-    let stands = opening_stands s items lines some few m m' k new then.0 then.1 in (
-      hall_none (size s) items lines some few c.in_ok-hall.ensures.0,
-      subst (λ (t : List ℕ). Served s (known_of s) open_bay hall_meaning g.W.Watch.sees l c.args.round.now t (string_bytes c.serve_rest.new.text) c.args.watch.now c.serve_rest.new.watch) c.in_ok-add_line.ensures
-          (c.in_ok-serve_rest.ensures l c.args.watch.now sound (λ i j. refl) stands c.look.ensures),
-    )
+    let stands = opening_stands s items lines some few m m' k new then.0 then.1 in
+    subst (λ (t : List ℕ). Served s (known_of s) open_bay hall_meaning g.W.Watch.sees l c.args.round.now t (string_bytes c.serve_rest.new.text) c.args.watch.now c.serve_rest.new.watch) c.in_ok-add_line.ensures
+    (c.in_ok-serve_rest.ensures l c.args.watch.now sound (λ i j. refl) stands c.look.ensures)
