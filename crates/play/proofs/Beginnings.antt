@@ -1,5 +1,5 @@
 -- The frames before an accepted start. Assumes nothing.
-use Rattle.std.proofs.Common.{◌≡◌, ℕ, List, [], ◌++◌, drop, refl, ap, ◌∙◌, subst, subst₂}
+use Rattle.std.proofs.Common.{◌≡◌, ℕ, List, [], ◌++◌, drop, refl, ap, ◌∙◌, subst₂}
 use Rattle.call.specs.declared.Call.{Call}
 use Rattle.frame.specs.Reading.{told}
 use Rattle.frame.specs.Laid.{Laid}
@@ -7,9 +7,9 @@ use Rattle.frame.proofs.Laws.{laid_same}
 use Rattle.replies.specs.Lines.{Said, line, lines_from}
 use Rattle.round.specs.declared.rounds.Round.{Round}
 use Rattle.round.specs.declared.rounds.Placed.{Placed}
-use Rattle.round.specs.Replies.{State, waiting, reply, next, replies, call_in}
+use Rattle.round.specs.Replies.{waiting, reply, next, replies, call_in}
 use Rattle.round.specs.Rounds.{file_in, here, Left, Taken, Replied}
-use Rattle.round.proofs.Courses.{Course, course_none, course_more, course_end, course_on}
+use Rattle.round.proofs.Courses.{Course, course_more, course_end, course_on}
 use Rattle.play.specs.Played.{PlayedOn, Played}
 
 -- The frames so far, of a round that still waits.
@@ -17,14 +17,11 @@ pub record Waits (r₀ : Round) (text₀ : List ℕ) (r : Round) (text : List �
   pub made : List Call
   pub course : Course r₀ waiting text₀ r waiting text made
 
-pub waits_none : (r : Round) (text : List ℕ) → Waits r text r text
-waits_none r text = record { made = []; course = course_none r waiting text }
-
 module _ {r₀ : Round} {text₀ : List ℕ} {r : Round} {text : List ℕ} (w : Waits r₀ text₀ r text) (r' : Round) (p : Placed) (one : Taken r p r') (text' : List ℕ) where
   pub waits_more : (x : Said) → x ≡ reply waiting p.offset (told p.answer) → next waiting p.offset (told p.answer) ≡ waiting → text' ≡ text ++ line p.number x → Waits r₀ text₀ r' text'
   waits_more x said still grown = record {
     made = w.made ++ call_in (told p.answer);
-    course = subst (λ (st : State). Course r₀ waiting text₀ r' st text' (w.made ++ call_in (told p.answer))) still
+    course = rw still at
         (course_more w.course r' p one (told p.answer) refl text' (grown ∙ ap (λ (y : Said). text ++ line p.number y) said));
   }
 

@@ -1,6 +1,5 @@
 -- What one step of a reader does to the rest of a round. Assumes nothing.
 use Rattle.std.proofs.Common.{◌≡◌, ℕ, ◌+◌, ◌<◌, leb, ◌⊎◌, List, [], ◌∷◌, length, get_or, drop, Some, None, Option, Result, sym, refl, ap, ◌∙◌, subst, inl, inr, add-zero, arith, length-drop, length-take-le, get_or-drop, leb-true}
-use Rattle.std.specs.Option.{option_map}
 use Rattle.fault.specs.declared.fault.FileFault.{FileFault}
 use Rattle.frame.specs.declared.frame.Frame.{Frame}
 use Rattle.frame.specs.declared.reader.Reader.{Reader}
@@ -34,37 +33,32 @@ place_after : (offset after : ℕ) (bytes rest : List ℕ) (a : Heard) → after
 place_after offset after [] rest a same e = let no : ◌≡◌ {A = Option Heard} (Some a) None = ap (λ (x : Step). x.answer) e in absurd (grind arith)
 place_after offset after (x ∷ bytes) rest a same e = place_found offset after (x ∷ bytes) rest a same (front (x ∷ bytes)) refl e
 
-module _ (s t : Reader) (r : Option (Result Frame FileFault)) (one : Steps s r t) where
-  same_end : t.offset + length (bytes_left t) ≡ s.offset + length (bytes_left s)
-  same_end = omega (arith, length-drop t.offset (file_of t), length-drop s.offset (file_of s), ap length one.0, s.within, t.within)
+module _ (s t : Reader) where
+  same_end : file_of t ≡ file_of s → t.offset + length (bytes_left t) ≡ s.offset + length (bytes_left s)
+  same_end same = omega (arith, length-drop t.offset (file_of t), length-drop s.offset (file_of s), ap length same, s.within, t.within)
 
   -- The next frame never begins before this one.
-  pub onward : length (bytes_left t) < length (bytes_left s) → s.offset < t.offset
-  onward less = omega (arith, same_end, less)
+  pub onward : file_of t ≡ file_of s → length (bytes_left t) < length (bytes_left s) → s.offset < t.offset
+  onward same less = omega (arith, same_end same, less)
 
-  module _ (a : Result Frame FileFault) (is : r ≡ Some a) where
-    said : record { answer = Some (told a); rest = bytes_left t } ≡ step s.offset (bytes_left s)
-    said = subst (λ o. record { answer = option_map told o; rest = bytes_left t } ≡ step s.offset (bytes_left s)) is one.1
-
+  module _ (a : Result Frame FileFault) (one : Steps s (Some a) t) where
     pub reads_then : Bytes (file_of s) → (more : List Heard) → Laid t.offset (bytes_left t) more → Laid s.offset (bytes_left s) (told a ∷ more)
     reads_then small more l =
         let below : Bytes (bytes_left s) = λ i. subst (λ n. n < 256) (sym (get_or-drop s.offset (file_of s) i 0)) (small (s.offset + i)) in
-        step_laid s.offset t.offset (bytes_left s) (bytes_left t) (told a) below same_end said more l
+        step_laid s.offset t.offset (bytes_left s) (bytes_left t) (told a) below (same_end one.0) one.1 more l
 
     pub reads_place : (bytes_left t ≡ []) ⊎ (t.offset ≡ end_of (file_of s) s.offset)
     reads_place =
         subst (λ n. (bytes_left t ≡ []) ⊎ (t.offset ≡ s.offset + (4 + n))) (λ i. number ((get_or-drop s.offset (file_of s) 0 0 ∙ ap (λ k. get_or (file_of s) k 0) (add-zero s.offset)) i) (get_or-drop s.offset (file_of s) 1 0 i))
-        (place_after s.offset t.offset (bytes_left s) (bytes_left t) (told a) same_end said)
+        (place_after s.offset t.offset (bytes_left s) (bytes_left t) (told a) (same_end one.0) one.1)
 
-  said_none : r ≡ None → record { answer = None; rest = bytes_left t } ≡ step s.offset (bytes_left s)
-  said_none is = subst (λ o. record { answer = option_map told o; rest = bytes_left t } ≡ step s.offset (bytes_left s)) is one.1
+  module _ (one : Steps s None t) where
+    pub reads_end : Laid s.offset (bytes_left s) []
+    reads_end = ended (step_ended s.offset (bytes_left s) (bytes_left t) one.1)
 
-  pub reads_end : r ≡ None → Laid s.offset (bytes_left s) []
-  reads_end is = ended (step_ended s.offset (bytes_left s) (bytes_left t) (said_none is))
-
-  -- At the end the reader stays.
-  pub stays : r ≡ None → t.offset ≡ s.offset
-  stays is =
-      let none = step_ended s.offset (bytes_left s) (bytes_left t) (said_none is) in
-      let left : bytes_left t ≡ [] = ap (λ (x : Step). x.rest) (said_none is ∙ ap (step s.offset) none) in
-      omega (arith, same_end, ap length none, ap length left)
+    -- At the end the reader stays.
+    pub stays : t.offset ≡ s.offset
+    stays =
+        let none = step_ended s.offset (bytes_left s) (bytes_left t) one.1 in
+        let left : bytes_left t ≡ [] = ap (λ (x : Step). x.rest) (one.1 ∙ ap (step s.offset) none) in
+        omega (arith, same_end one.0, ap length none, ap length left)

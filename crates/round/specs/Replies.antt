@@ -1,5 +1,5 @@
 -- The replies to the frames of a round file: what a ledger tells from the frames alone. Assumes nothing.
-use Rattle.std.specs.Prelude.{ℕ, ◌+◌, ◌*◌, not, ◌||◌, ltb, List, [], ◌∷◌, ◌++◌, length, Some, None, Ok, Err, Option, ◌==◌, nat_lt, slice_index}
+use Rattle.std.specs.Prelude.{ℕ, ◌+◌, ◌*◌, not, ◌||◌, List, [], ◌∷◌, ◌++◌, length, Some, None, Ok, Err, Option, ◌==◌, nat_lt, slice_index}
 use Rattle.fault.specs.Refusing.{when, or_else}
 use Rattle.fault.specs.declared.fault.FileFault.TheVariants.{NotNow, NoField}
 use Rattle.fault.specs.declared.fault.BookFault.TheVariants.{ItemCount}
@@ -39,7 +39,7 @@ why_open offset items lines field =
 
 -- A hall opens with the switches of all its bays on.
 abbrev pub first_ledger : ℕ → ℕ → ℕ → Ledger
-first_ledger q items lines = opening q items (record { bays = items + 4; lines = lines; switch = λ bay. ltb bay (items + 4) })
+first_ledger q items lines = opening q items (record { bays = items + 4; lines = lines; switch = λ bay. nat_lt bay (items + 4) })
 
 abbrev pub not_now : ℕ → Said
 not_now offset = refused (File (NotNow offset))

@@ -1,5 +1,5 @@
 -- One frame, by the task that it is. Assumes nothing.
-use Rattle.std.proofs.Common.{◌≡◌, ℕ, Bool, true, false, cond, Some, None, Ok, Err, Option, sym, refl, ap, subst, arith}
+use Rattle.std.proofs.Common.{◌≡◌, ℕ, Bool, true, false, cond, Some, None, Ok, Err, Option, sym, refl, ap, ◌∙◌, subst, arith}
 use Rattle.call.specs.declared.Call.{Call}
 use Rattle.call.specs.declared.Call.TheVariants.{Post, Get, Off, On, Release, Seat, Mend}
 use Rattle.frame.specs.Format.{start, call, note, unknown}
@@ -13,7 +13,7 @@ use Rattle.ledger.specs.Stands.{Turn}
 use Rattle.ledger.proofs.Turns.{open_get, open_post, open_mend, open_release, closed_seat}
 use Rattle.replies.specs.Lines.{Said}
 use Rattle.round.specs.Replies.{room, not_now, answer_reply}
-use Rattle.round.specs.Tasks.{open_hall, make, say, allowed, task, phase_of}
+use Rattle.round.specs.Tasks.{make, say, allowed, task, start_task, phase_of}
 use Rattle.serve.specs.Served.{Answered}
 
 -- A call that the drawer bars.
@@ -41,27 +41,18 @@ chosen_make : (b : Bool) (c' c : Call) (y : Said) → make c ≡ cond b (make c'
 chosen_make true c' c y e = cc
 chosen_make false c' c y e = absurd (grind arith)
 
-chosen_open : (b : Bool) (c : Call) (y : Said) (items lines field : ℕ) → open_hall items lines field ≡ cond b (make c) (say y) → ⊥
-chosen_open true c y items lines field e = grind arith
-chosen_open false c y items lines field e = grind arith
+-- A start is not allowed while a bank is served.
+no_start : (offset : ℕ) (o : Option ℕ) (items lines field : ℕ) → start_task (phase_of o) offset items lines field ≡ say (not_now offset)
+no_start offset None items lines field = refl
+no_start offset (Some bay) items lines field = refl
 
 -- A task to make a call is that call's.
 pub make_is : (offset : ℕ) (o : Option ℕ) (a : Heard) (c : Call) → make c ≡ task (phase_of o) offset a → a ≡ Ok (call c)
-make_is offset None (Ok (start items lines field)) c e = absurd (grind arith)
-make_is offset (Some bay) (Ok (start items lines field)) c e = absurd (grind arith)
+make_is offset o (Ok (start items lines field)) c e = let no = e ∙ no_start offset o items lines field in absurd (grind arith)
 make_is offset o (Ok (call c')) c e = ap (λ (x : Call). Ok (call x)) (chosen_make (allowed (phase_of o) c') c' c (not_now offset) e)
 make_is offset o (Ok (note text)) c e = absurd (grind arith)
 make_is offset o (Ok (unknown kind body)) c e = absurd (grind arith)
 make_is offset o (Err fault) c e = absurd (grind arith)
-
--- No start is a task while a bank is served.
-pub never_opens : (offset : ℕ) (o : Option ℕ) (a : Heard) (items lines field : ℕ) → open_hall items lines field ≡ task (phase_of o) offset a → ⊥
-never_opens offset None (Ok (start i l f)) items lines field e = grind arith
-never_opens offset (Some bay) (Ok (start i l f)) items lines field e = grind arith
-never_opens offset o (Ok (call c)) items lines field e = chosen_open (allowed (phase_of o) c) c (not_now offset) items lines field e
-never_opens offset o (Ok (note text)) items lines field e = grind arith
-never_opens offset o (Ok (unknown kind body)) items lines field e = grind arith
-never_opens offset o (Err fault) items lines field e = grind arith
 
 said_say : (x y : Said) → say x ≡ say y → x ≡ y
 said_say x y e = cc
@@ -72,12 +63,8 @@ module _ {K : Type 0} (s : Structure K) {D R : Type 0} (knows : D → Known) (op
   answered_make a c e x d' r' w turn said =
       subst (λ (h : Heard). Answered s knows open_bay meaning offset h d r x d' r') (sym (make_is offset (open_bay d) a c e)) (w, turn, said)
 
-  start_say : (o : Option ℕ) (items lines field : ℕ) (x : Said) → say x ≡ task (phase_of o) offset (Ok (start items lines field)) → x ≡ not_now offset
-  start_say None items lines field x e = said_say x (not_now offset) e
-  start_say (Some bay) items lines field x e = said_say x (not_now offset) e
-
   pub answered_say : (a : Heard) (x : Said) → say x ≡ task (phase_of (open_bay d)) offset a → Answered s knows open_bay meaning offset a d r x d r
-  answered_say (Ok (start items lines field)) x e = (refl, refl, λ l. start_say (open_bay d) items lines field x e)
+  answered_say (Ok (start items lines field)) x e = (refl, refl, λ l. said_say x (not_now offset) (e ∙ no_start offset (open_bay d) items lines field))
   answered_say (Ok (call c)) x e =
       let found = chosen_say (allowed (phase_of (open_bay d)) c) c (not_now offset) x e in
       (NotAllowed, barred s (knows d) (meaning r) (open_bay d) c found.0, found.1)

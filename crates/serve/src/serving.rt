@@ -18,16 +18,14 @@ use fault::fault::{BookFault, Fault, RackFault};
 use field::{BaseField, Field};
 use frame::frame::Frame;
 use ledger::Answer;
-use rack::sides::{Reading, Serving};
+use rack::sides::{MOST_BAYS, Reading, Serving};
 use replies::{Reply, add_line};
 use round::rounds::{Placed, Round};
 use round::tasks::{BankSize, Phase, Task, not_now, task_of};
 use std::alloc::{AllocError, Global};
 
-// The worksheet has room for the words of the longest line.
-const ROOM: usize = 260;
-
 // Why a round is not served to its end: there is no memory, or its start is refused.
+#[derive(Clone, Copy, PartialEq, Eq, Debug)]
 pub enum NotServed {
     Memory(AllocError),
     Refused(Fault),
@@ -57,6 +55,7 @@ impl From<RackFault> for NotServed {
     }
 }
 
+// The phase of a bank with this drawer. (No `From` can stand here, nor at `reply_of`: the types are of other crates.)
 fn phase<F: BaseField>(drawer: &Drawer<F>) -> Phase
     ensures { result ≡ phase_of (open_bay drawer.now) }
 {
@@ -116,7 +115,7 @@ fn show_call<F: BaseField, R: Serving, W: Watch<F, R>>(
 
 // Serves the rest of a round.
 fn serve_rest<F: BaseField, R: Serving, W: Watch<F, R>>(
-    drawer: Drawer<F>,
+    mut drawer: Drawer<F>,
     rack: &mut R,
     watch: &mut W,
     round: &mut Round<'_>,
@@ -127,8 +126,8 @@ fn serve_rest<F: BaseField, R: Serving, W: Watch<F, R>>(
         (Serves s (known_of s) open_bay R.Reading.meaning W.Watch.sees drawer rack.old watch.old round.old
         (string_bytes text.old) (string_bytes text.new) watch.new) }
 {
-    let mut drawer = drawer;
-    let mut sheet = [0; ROOM];
+    // The worksheet has room for the words of the longest line.
+    let mut sheet = [0; MOST_BAYS];
     for placed in round {
         let (next, reply) = answer_frame(drawer, rack, &mut sheet, placed);
         drawer = next;

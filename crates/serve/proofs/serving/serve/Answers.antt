@@ -1,11 +1,9 @@
-use Rattle.std.proofs.Common.{◌≡◌, ℕ, ◌≤◌, List, Some, None, string_bytes, Option, refl, ◌∙◌, subst, arith}
+use Rattle.std.proofs.Common.{◌≡◌, ◌≤◌, Some, None, Option, refl, ◌∙◌, arith}
 use Rattle.fault.specs.declared.fault.BookFault.{BookFault}
 use Rattle.field.specs.Structure.{size}
 use Rattle.book.specs.Known.{knows}
-use Rattle.bank.specs.Drawers.{known_of, open_bay}
 use Rattle.round.specs.Replies.{first_ledger}
 use Rattle.serve.specs.Halls.{hall_meaning}
-use Rattle.serve.specs.Served.{Served}
 use Rattle.serve.proofs.Openings.{starts, opening_sound, opening_stands, hall_none}
 use Rattle.serve.proofs.serving.serve.Goals as goal
 
@@ -38,5 +36,4 @@ returns-clause-served g c =
     let l = first_ledger (size s) items lines in
     let sound = opening_sound s items lines some few m m' k new then.0 then.1 in
     let stands = opening_stands s items lines some few m m' k new then.0 then.1 in
-    subst (λ (t : List ℕ). Served s (known_of s) open_bay hall_meaning g.W.Watch.sees l c.args.round.now t (string_bytes c.serve_rest.new.text) c.args.watch.now c.serve_rest.new.watch) c.in_ok-add_line.ensures
-    (c.in_ok-serve_rest.ensures l c.args.watch.now sound (λ i j. refl) stands c.look.ensures)
+    rw c.in_ok-add_line.ensures at (c.in_ok-serve_rest.ensures l c.args.watch.now sound (λ i j. refl) stands c.look.ensures)
