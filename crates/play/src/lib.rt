@@ -29,7 +29,8 @@ impl<F: BaseField> Watch<F, Hall> for Nobody {
     fn look(&mut self, _drawer: &Drawer<F>, _rack: &Hall) {}
 }
 
-// Opens a bank over the field that a start names, and plays the rest of the round.
+// Opens a bank over the field that a start names, and plays the rest of the round. Each field is a type of its own, so an enum
+// between the number in the file and the type would only be matched again.
 #[tactic(auto, unfolding(extension::specs::Extend::extend))]
 fn open(
     heap: Global,
@@ -84,7 +85,7 @@ pub fn play(heap: Global, file: &[u8]) -> Result<String, AllocError>
 {
     let mut text = String::new(heap);
     let mut round = Round::new(file);
-    // No `for`: each frame may take the rest of the round with it.
+    // No `for`, which would keep the round lent: a start takes the rest of it.
     while let Some(placed) = round.next() {
         let Some(reply) = begin(heap, placed, &mut round, &mut text)? else {
             return Ok(text);

@@ -22,11 +22,7 @@ replied_at {r} {st} {text} p q x = subst₂ (λ t m. Replied r st text t m) p q 
 
 -- The frames that are left are replied to from where the next one begins.
 placed : (r r' : Round) (p : Placed) → Taken r p r' → (st : State) (more : List Heard) → Left r' more → replies (file_in r) st (end_of (file_in r) (here r)) more ≡ replies (file_in r') st (here r') more
-placed r r' p one st more l =
-    elim one.place [
-      | inl e ↦ let none : more ≡ [] = laid_none l e in rw none refl
-      | inr e ↦ λ i. replies (sym one.file i) st (sym e i) more
-    ]
+placed r r' p one st more l = elim one.place [ inl e ↦ rw (laid_none l e) refl | inr e ↦ λ i. replies (sym one.file i) st (sym e i) more ]
 
 module _ {r₀ : Round} {st₀ : State} {text₀ : List ℕ} {r : Round} {st : State} {text : List ℕ} {made : List Call} (course : Course r₀ st₀ text₀ r st text made) where
   -- One frame more.
@@ -35,11 +31,7 @@ module _ {r₀ : Round} {st₀ : State} {text₀ : List ℕ} {r : Round} {st : S
   course_more r' p one a is text' grown = record {
     file = one.file ∙ course.file;
     rest = λ more l.
-        replied_at
-        (sym (append_assoc text (line r.number (reply st (here r) a)) _)
-        ∙ (λ i. (text ++ line (sym one.number i) (reply st (sym one.offset i) a)) ++ lines_from (sym one.counted i) (replies (file_in r) (next st (sym one.offset i) a) (end_of (file_in r) (here r)) more))
-        ∙ (λ i. sym grown i ++ lines_from r'.number (placed r r' p one (next st p.offset a) more l i)))
-        (sym (append_assoc made (call_in a) (calls more)))
+        rw (grown, ← placed r r' p one (next st p.offset a) more l, one.number, one.offset, one.counted, append_assoc text _ _, append_assoc made _ _)
         (course.rest (a ∷ more) (subst (λ (x : Heard). Left r (x ∷ more)) is (one.then more l)));
   }
 

@@ -1,6 +1,7 @@
 -- The racks of a new hall, side by side. Assumes nothing.
 use Rattle.std.proofs.Common.{◌≡◌, ℕ, ◌+◌, ◌-◌, ◌*◌, ◌<◌, ◌≤◌, Bool, true, false, cond, ltb, ◌⊎◌, get_or, replicate, None, refl, inl, inr, arith}
-use lib.ListN.{get_or-replicate}
+use Rattle.std.proofs.lemmas.List.{get_or-replicate, get_or_past}
+use lib.ListN.{length-replicate}
 use Rattle.std.proofs.lemmas.Bool.{cases_lt}
 use Rattle.std.proofs.lemmas.Bool.Decides.{nat_tests}
 use Rattle.rack.specs.Meaning.{Meaning}
@@ -16,13 +17,11 @@ use Rattle.serve.specs.Halls.{new_hall}
 abbrev pub zeros : ℕ → ℕ → Meaning
 zeros bays lines = fresh bays lines (replicate (bays * lines) 0)
 
+zero_word : (n k : ℕ) → get_or {A = ℕ} (replicate n 0) k 0 ≡ 0
+zero_word n k = elim (cases_lt k n) [ inl h ↦ get_or-replicate n k 0 0 h | inr h ↦ get_or_past (replicate n 0) k 0 (omega (arith, length-replicate {A = ℕ} n 0)) ]
+
 zero_cell : (bays lines bay line : ℕ) → word_in bays lines (replicate (bays * lines) 0) bay line ≡ 0
-zero_cell bays lines bay line = go (cases_lt bay bays) (cases_lt line lines)
-  where
-    go : ((bay < bays) ⊎ (bays ≤ bay)) → ((line < lines) ⊎ (lines ≤ line)) → word_in bays lines (replicate (bays * lines) 0) bay line ≡ 0
-    go (inl h) (inl k) = let e : get_or {A = ℕ} (replicate (bays * lines) 0) (place_of lines bay line) 0 ≡ 0 = get_or-replicate (bays * lines) (place_of lines bay line) 0 0 (place_within bays lines bay line h k) in grind (arith, nat_tests)
-    go (inl h) (inr k) = grind (arith, nat_tests)
-    go (inr h) k = grind (arith, nat_tests)
+zero_cell bays lines bay line = let e = zero_word (bays * lines) (place_of lines bay line) in grind (arith, nat_tests)
 
 zero_either : (a b : Bool) (x y : ℕ) → x ≡ 0 → y ≡ 0 → cond a (cond b x y) 0 ≡ 0
 zero_either true true x y p q = p
@@ -36,7 +35,3 @@ pub beside_zeros : (items lines : ℕ) → beside (zeros 4 lines) (zeros items l
 beside_zeros items lines =
     same_meaning (beside (zeros 4 lines) (zeros items lines)) (new_hall items lines) (omega arith) refl (on_either items)
     (λ bay line. zero_either (ltb line lines) (ltb bay 4) _ _ (zero_cell 4 lines bay line) (zero_cell items lines (bay - 4) line))
-
--- Whether the lines are too many does not turn on the bays.
-pub any_bays : (bays bays' lines : ℕ) → why_lines bays lines ≡ None → why_lines bays' lines ≡ None
-any_bays bays bays' lines e = grind (arith, nat_tests)

@@ -8,7 +8,7 @@ ghost use Rattle.replies.specs.Lines.{said, done, line as line_of};
 ghost use Rattle.round.specs.Replies.{room, first_ledger, why_hall, answer_reply};
 ghost use Rattle.round.specs.Tasks.{phase_of};
 ghost use Rattle.serve.specs.declared.serving.NotServed.TheVariants.{Memory, Refused};
-ghost use Rattle.serve.specs.Halls.{hall_meaning, Unserved};
+ghost use Rattle.serve.specs.Halls.{hall_meaning, unmade, Unserved};
 ghost use Rattle.serve.specs.Served.{Answered, Shown, Served, Serves};
 
 use crate::halls::{Hall, make_hall};
@@ -18,6 +18,7 @@ use fault::fault::{BookFault, Fault, RackFault};
 use field::{BaseField, Field};
 use frame::frame::Frame;
 use ledger::Answer;
+use rack::error::RackError;
 use rack::sides::{MOST_BAYS, Reading, Serving};
 use replies::{Reply, add_line};
 use round::rounds::{Placed, Round};
@@ -55,6 +56,18 @@ impl From<RackFault> for NotServed {
     }
 }
 
+// Why a rack was not made.
+impl From<RackError> for NotServed {
+    ghost from_gives = { λ x r. r ≡ unmade x };
+
+    fn from(error: RackError) -> NotServed {
+        match error {
+            RackError::Refused(fault) => NotServed::from(fault),
+            RackError::NoMemory => NotServed::from(AllocError),
+        }
+    }
+}
+
 // The phase of a bank with this drawer. (No `From` can stand here, nor at `reply_of`: the types are of other crates.)
 fn phase<F: BaseField>(drawer: &Drawer<F>) -> Phase
     ensures { result ≡ phase_of (open_bay drawer.now) }
@@ -86,7 +99,7 @@ fn answer_frame<'a, F: BaseField, R: Serving>(
 ) -> (Drawer<F>, Reply<'a>)
     requires { length sheet.old ≡ room }
     ensures { let s = F.Field.structure in
-        Answered s (known_of s) open_bay R.Reading.meaning placed.entry.offset (told placed.entry.answer)
+        Answered s known_of open_bay R.Reading.meaning placed.entry.offset (told placed.entry.answer)
         drawer rack.old (said result.1) result.0 rack.new }
 {
     match task_of(phase(&drawer), placed) {
@@ -123,7 +136,7 @@ fn serve_rest<F: BaseField, R: Serving, W: Watch<F, R>>(
 ) -> Result<(), AllocError>
     ensures { let s = F.Field.structure in
         OnOk result
-        (Serves s (known_of s) open_bay R.Reading.meaning W.Watch.sees drawer rack.old watch.old round.old
+        (Serves s known_of open_bay R.Reading.meaning W.Watch.sees drawer rack.old watch.old round.old
         (string_bytes text.old) (string_bytes text.new) watch.new) }
 {
     // The worksheet has room for the words of the longest line.
@@ -137,7 +150,8 @@ fn serve_rest<F: BaseField, R: Serving, W: Watch<F, R>>(
     Ok(())
 }
 
-// Opens a bank with so many items and lines, and serves the rest of the round.
+// Opens a bank with so many items and lines, and serves the rest of the round. The round and the text are no struct: the loop
+// lends the one while the other grows.
 pub fn serve<F: BaseField, W: Watch<F, Hall>>(
     heap: Global,
     number: usize,
@@ -150,7 +164,7 @@ pub fn serve<F: BaseField, W: Watch<F, Hall>>(
     ensures served { let s = F.Field.structure in
         let first = first_ledger (order_of s) size.items size.lines in
         OnOk result
-        (Served s (known_of s) open_bay hall_meaning W.Watch.sees first round.old
+        (Served s known_of open_bay hall_meaning W.Watch.sees first round.old
         (string_bytes text.old ++ line_of number done) (string_bytes text.new) watch.old watch.new) }
     ensures unserved { IfErr result
         (Unserved (why_hall (order_of F.Field.structure) size.items size.lines)

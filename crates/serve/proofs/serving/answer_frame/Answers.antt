@@ -9,7 +9,7 @@ returns-in-Call g c =
     let p = c.args.placed in
     let is = rw (c.in-Call.is, c.phase.ensures) at c.task_of.ensures in
     let turned = rw c.requires at c.turn-drawer.ensures.turned in
-    answered_make s (known_of s) open_bay g.R.Reading.meaning p.offset c.args.drawer c.args.rack.now (told p.answer) c.in-Call.call is
+    answered_make s known_of open_bay g.R.Reading.meaning p.offset c.args.drawer c.args.rack.now (told p.answer) c.in-Call.call is
     _ c.turn-drawer.result.0 c.turn-drawer.new.rack c.turn-drawer.result.1 turned c.reply_of.ensures
 
 pub returns-in-Reply : goal.returns-in-Reply
@@ -17,4 +17,4 @@ returns-in-Reply g c =
     let s = g.F.Field.structure in
     let p = c.args.placed in
     let is = rw (c.in-Reply.is, c.phase.ensures) at c.task_of.ensures in
-    answered_say s (known_of s) open_bay g.R.Reading.meaning p.offset c.args.drawer c.args.rack.now (told p.answer) _ is
+    answered_say s known_of open_bay g.R.Reading.meaning p.offset c.args.drawer c.args.rack.now (told p.answer) _ is

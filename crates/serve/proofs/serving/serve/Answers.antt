@@ -29,11 +29,12 @@ returns-clause-served g c =
     let some : 1 ≤ items = omega (arith, c.if-items-eq0.false) in
     let few : items ≤ size s = omega (arith, c.if-items-order.false, c.order.ensures) in
     let new = c.in_ok-hall.ensures.new in
-    let then = c.in_ok-start.ensures.then in
+    let book = c.in_ok-start.ensures.book in
+    let rack = c.in_ok-start.ensures.rack in
     let m = hall_meaning c.in_ok-hall.hall in
     let m' = hall_meaning c.start.new.rack in
     let k = knows c.in_ok-start.field-0 in
     let l = first_ledger (size s) items lines in
-    let sound = opening_sound s items lines some few m m' k new then.0 then.1 in
-    let stands = opening_stands s items lines some few m m' k new then.0 then.1 in
+    let sound = opening_sound s items lines some few m m' k new book rack in
+    let stands = opening_stands s items lines some few m m' k new book rack in
     rw c.in_ok-add_line.ensures at (c.in_ok-serve_rest.ensures l c.args.watch.now sound (λ i j. refl) stands c.look.ensures)

@@ -16,6 +16,6 @@ invariant-loop-placed g l =
     record {
       sheet : length l.sheet ≡ room;
       going : (k : Ledger) (w₀ : g.row.W.Denot) (sound : Sound s k) (new : (item line : ℕ) → k.count item line ≡ 0)
-          → Stands s k (known_of s old.drawer) (open_bay old.drawer) (meaning old.rack) → sees w₀ old.drawer old.rack old.watch
-          → Going s (known_of s) open_bay meaning sees k sound new old.placed-iterator (string_bytes old.text) w₀ l.drawer l.rack l.watch l.placed-iterator (string_bytes l.text);
+          → Stands s k (known_of old.drawer) (open_bay old.drawer) (meaning old.rack) → sees w₀ old.drawer old.rack old.watch
+          → Going s known_of open_bay meaning sees k sound new old.placed-iterator (string_bytes old.text) w₀ l.drawer l.rack l.watch l.placed-iterator (string_bytes l.text);
     }
