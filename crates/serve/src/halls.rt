@@ -1,7 +1,5 @@
 // The racks of a hall.
-ghost use Rattle.std.specs.Prelude.{◌≡◌, ◌+◌, ◌*◌, ◌≤◌, replicate, None, IfOk, IfErr, OnOk};
-ghost use Rattle.plain_rack.specs.Plain.{plain_meaning};
-ghost use Rattle.plain_rack.specs.Shape.{fresh};
+ghost use Rattle.std.specs.Prelude.{◌≡◌, ◌+◌, ◌≤◌, None, IfOk, IfErr, OnOk};
 ghost use Rattle.round.specs.Replies.{why_lines};
 ghost use Rattle.serve.specs.Halls.{hall_meaning, new_hall, Unserved};
 
