@@ -29,7 +29,7 @@ pub(crate) fn bit<F: BaseField>(j: usize) -> F
     requires { j < F.Field.structure.bits }
     ensures { result ≡ bit F.Field.structure j }
 {
-    F::from_number(run_length(j) as u32).unwrap()
+    F::element(run_length(j) as u32)
 }
 
 // v²·w + v·w², as v·w·(v + w).
@@ -44,7 +44,7 @@ pub(crate) fn factor<F: BaseField>(number: u8) -> F
     requires { number < size F.Field.structure }
     ensures { result ≡ F.Field.structure.of number }
 {
-    F::from_number(number as u32).unwrap()
+    F::element(number as u32)
 }
 
 // The number of a base element, in a byte.

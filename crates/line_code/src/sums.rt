@@ -23,7 +23,7 @@ pub(crate) fn element<F: BaseField>(word: u16) -> Ext<F>
     requires { word < size (extend F.Field.structure) }
     ensures { result ≡ (extend F.Field.structure).of word }
 {
-    Ext::<F>::from_number(word as u32).unwrap()
+    Ext::<F>::element(word as u32)
 }
 
 // The point of an item, w + u.
@@ -32,7 +32,7 @@ fn point<F: BaseField>(item: usize) -> Ext<F>
     ensures { result ≡ point F.Field.structure item }
 {
     Ext {
-        lo: F::from_number(item as u32).unwrap(),
+        lo: F::element(item as u32),
         hi: F::one(),
     }
 }

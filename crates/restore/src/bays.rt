@@ -35,7 +35,7 @@ pub(crate) fn column<F: BaseField>(bay: usize) -> Four<Ext<F>>
         return Four::from_fn(|k| if k == bay { Ext::one() } else { Ext::zero() });
     }
     let h = Ext {
-        lo: F::from_number((bay - 4) as u32).unwrap(),
+        lo: F::element((bay - 4) as u32),
         hi: F::one(),
     };
     let hh = h.times(h);

@@ -29,7 +29,7 @@ fn present_sums<F: BaseField>(words: &[u16], marks: &[u8]) -> Four<Ext<F>>
     let mut sums = Four::from_fn(|_| Ext::zero());
     for (bay, (word, mark)) in words.iter().zip(marks).enumerate() {
         if *mark == 0 {
-            let word = Ext::<F>::from_number(u32::from(*word)).unwrap();
+            let word = Ext::<F>::element(u32::from(*word));
             sums = add_multiple(sums, column(bay), word);
         }
     }

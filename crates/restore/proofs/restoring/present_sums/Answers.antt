@@ -2,7 +2,6 @@
 use Rattle.std.proofs.Common.{◌≡◌, ◌+◌, true, false, drop, get_or, length, refl, sym, ap, subst, ◌∙◌, inl, inr, rules, arith, length-drop}
 use Rattle.std.proofs.lemmas.Bool.Decides.{nat_tests}
 use Rattle.extension.specs.Extend.{extend}
-use Rattle.field.proofs.Made.{taken}
 use Rattle.distance.specs.Column.{column}
 use Rattle.restore.specs.Restored.{absent}
 use Rattle.restore.proofs.PresentSums.{Sums, sums_none, sums_take, sums_skip, drop_head}
@@ -49,11 +48,11 @@ loop-bay-preserved-then-mark-eq0 g c =
     let next : c.next.new.self.count ≡ n + 1 = steps.2 in
     let here : absent marks n ≡ false = grind (arith, nat_tests) in
     let number : c.from.result ≡ get_or words n 0 = cc in
-    let element = (taken (extend s) c.from.result c.unwrap-word.result (sym c.unwrap-word.ensures ∙ c.from_number.ensures)).1 ∙ ap (extend s).of number in
+    let element = c.element-word.ensures ∙ ap (extend s).of number in
     record {
       sums = subst (λ n. Sums s words marks n c.add_multiple-sums.result) (sym next)
           (sums_take s words marks n _ _ c.loop-bay.invariant.sums here c.column.result (λ k h. c.column.ensures k h ∙ ap (λ b. column s b k) steps.1)
-          c.unwrap-word.result element c.add_multiple-sums.ensures);
+          c.element-word.result element c.add_multiple-sums.ensures);
       within = omega (arith, next, word.0);
       words_left = word.2 ∙ ap (λ k. drop k words) (sym next);
       marks_left = mark.2 ∙ ap (λ k. drop k marks) (sym next);
