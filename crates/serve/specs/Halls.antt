@@ -12,7 +12,7 @@ use Rattle.plain_rack.specs.declared.parts.PlainRack.{PlainRack}
 use Rattle.serve.specs.declared.serving.NotServed.{NotServed}
 use Rattle.serve.specs.declared.serving.NotServed.TheVariants.{Memory, Refused}
 
-abbrev pub hall_meaning : JoinedRack PlainRack PlainRack → Meaning
+abbrev pub hall_meaning : {first second : _} → JoinedRack PlainRack PlainRack first second → Meaning
 hall_meaning = joined_meaning plain_meaning plain_meaning
 
 -- Four bays and one for each item, with all switches on and all words zero.
