@@ -14,4 +14,4 @@ words_for bays lines = min (bays * lines) (2 ^ 64 - 1)
 abbrev pub Zeros : ℕ → ℕ → Result PlainRack RackError → Type 0
 Zeros bays lines (Ok rack) = (shape_answer bays lines (words_for bays lines) ≡ Ok record { bays = bays; lines = lines }) × (plain_meaning rack ≡ fresh bays lines (replicate (bays * lines) 0))
 Zeros bays lines (Err (Refused f)) = shape_answer bays lines (words_for bays lines) ≡ Err f
-Zeros bays lines (Err NoMemory) = shape_answer bays lines (words_for bays lines) ≡ Ok record { bays = bays; lines = lines }
+Zeros bays lines (Err (NoMemory error)) = shape_answer bays lines (words_for bays lines) ≡ Ok record { bays = bays; lines = lines }

@@ -1,5 +1,5 @@
 // The error of calls on racks that take memory.
-ghost use Rattle.std.specs.Prelude.{◌≡◌, Some};
+ghost use Rattle.std.specs.Prelude.{◌≡◌, Some, alloc_error};
 ghost use Rattle.rack.specs.declared.error.RackError.TheVariants.{Refused, NoMemory};
 ghost use Rattle.rack.specs.Printed.{printed_error};
 
@@ -12,7 +12,7 @@ use std::fmt;
 #[derive(Clone, Copy, PartialEq, Eq, Debug, Drop)]
 pub enum RackError {
     Refused(RackFault),
-    NoMemory,
+    NoMemory(AllocError),
 }
 
 impl From<RackFault> for RackError {
@@ -24,15 +24,15 @@ impl From<RackFault> for RackError {
 }
 
 impl From<AllocError> for RackError {
-    ghost from_gives = { λ _ r. r ≡ NoMemory };
+    ghost from_gives = { λ x r. r ≡ NoMemory x };
 
-    fn from(_: AllocError) -> RackError {
-        Self::NoMemory
+    fn from(error: AllocError) -> RackError {
+        Self::NoMemory(error)
     }
 }
 
 impl<T: Drop> From<AllocFailed<T>> for RackError {
-    ghost from_gives = { λ _ r. r ≡ NoMemory };
+    ghost from_gives = { λ _ r. r ≡ NoMemory alloc_error };
 
     fn from(failed: AllocFailed<T>) -> RackError {
         Self::from(AllocError::from(failed))
@@ -46,7 +46,7 @@ impl fmt::Display for RackError {
     fn fmt<W: fmt::Write>(&self, f: &mut fmt::Formatter<W>) -> fmt::Result {
         match self {
             RackError::Refused(fault) => Fault::from(*fault).fmt(f),
-            RackError::NoMemory => f.write_str("no memory"),
+            RackError::NoMemory(_) => f.write_str("no memory"),
         }
     }
 }

@@ -16,4 +16,4 @@ entries m line n = map (entry_of m line) (range_with_len 0 n)
 abbrev pub Listed : Meaning → ℕ → Result (Vec (Option ℕ)) RackError → Type 0
 Listed m line (Ok v) = (line < m.lines) × (vec_items v ≡ entries m line m.bays)
 Listed m line (Err (Refused f)) = (m.lines ≤ line) × (f ≡ NoLine line)
-Listed m line (Err NoMemory) = line < m.lines
+Listed m line (Err (NoMemory error)) = line < m.lines

@@ -1,5 +1,5 @@
 -- The racks of a hall as it opens, and why it does not. Assumes nothing.
-use Rattle.std.specs.Prelude.{◌≡◌, ℕ, ◌+◌, Some, Option, nat_lt, alloc_error}
+use Rattle.std.specs.Prelude.{◌≡◌, ℕ, ◌+◌, Some, Option, nat_lt}
 use Rattle.fault.specs.declared.fault.Fault.{Fault}
 use Rattle.fault.specs.declared.fault.Fault.TheVariants.{Rack}
 use Rattle.rack.specs.Meaning.{Meaning}
@@ -22,7 +22,7 @@ new_hall items lines = record { bays = items + 4; lines = lines; switch = λ bay
 -- Why there is no hall, where one of its racks was not made.
 abbrev pub unmade : RackError → NotServed
 unmade (RackRefused fault) = Refused (Rack fault)
-unmade NoMemory = Memory alloc_error
+unmade (NoMemory error) = Memory error
 
 -- It was refused by this, or there was no memory.
 abbrev pub Unserved : Option Fault → Type 0 → NotServed → Type 0

@@ -63,7 +63,7 @@ impl From<RackError> for NotServed {
     fn from(error: RackError) -> NotServed {
         match error {
             RackError::Refused(fault) => NotServed::from(fault),
-            RackError::NoMemory => NotServed::from(AllocError),
+            RackError::NoMemory(error) => NotServed::from(error),
         }
     }
 }
