@@ -26,6 +26,7 @@ pub enum ComposeError<'a> {
     Memory,
 }
 
+// Written out, since a derived `From` says nothing of its result.
 impl<'a> From<AllocError> for ComposeError<'a> {
     ghost from_gives = { λ _ r. r ≡ Memory };
 
@@ -54,6 +55,7 @@ pub fn compose<'a>(heap: Global, text: &'a [u8]) -> Result<Vec<u8>, ComposeError
             continue;
         }
         let number = before + 1;
+        // No `?` here and below: what `map_err` makes of an error is told of its closure alone, which no answer was found to use.
         match parse(line) {
             Ok(frame) => {
                 // What a line says can always be written, so only memory can be wanting here.

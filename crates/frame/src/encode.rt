@@ -23,6 +23,7 @@ pub enum WriteFault {
     Memory,
 }
 
+// Written out, since a derived `From` says nothing of its result.
 impl From<AllocError> for WriteFault {
     ghost from_gives = { λ _ r. r ≡ Memory };
 

@@ -30,7 +30,7 @@ pub fn encode<F: BaseField>(words: &[u16], checks: &mut [u16]) -> Result<(), Boo
     Ok(())
 }
 
-// The same by the definition, item by item.
+// The same by the definition, item by item. Each way is written out, since no bound can name a closure that takes a `Line<'_, F>` yet.
 pub fn encode_by_sums<F: BaseField>(words: &[u16], checks: &mut [u16]) -> Result<(), BookFault>
     ensures answer { result ≡ encode_answer F.Field.structure words.now (length checks.old) }
     ensures after { checks.new ≡ encode_after F.Field.structure words.now checks.old }

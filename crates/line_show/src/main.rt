@@ -6,7 +6,7 @@ mod strike;
 
 use crate::strike::{Tally, most_absent, strike_out};
 use anyhow::anyhow;
-use extension::Ext;
+use extension::Gf16;
 use field::{BaseField, Field, Gf4};
 use std::alloc::Global;
 use std::env;
@@ -43,19 +43,16 @@ fn show<F: BaseField>(rt: &HostRuntime, items: &[u16]) -> anyhow::Result<()> {
     Ok(())
 }
 
-fn run(rt: &HostRuntime) -> anyhow::Result<()> {
-    let numbers = arguments(rt)?;
+fn main(rt: HostRuntime) -> anyhow::Result<()> {
+    let numbers = arguments(&rt)?;
     let Some((order, items)) = numbers.as_slice().split_first() else {
         return Err(anyhow!("write the size of the field and the items"));
     };
+    // Each field is a type of its own, so an enum between the number and the type would only be matched again.
     match *order {
-        4 => show::<Gf4>(rt, items),
-        16 => show::<Ext<Gf4>>(rt, items),
-        256 => show::<Table256>(rt, items),
+        4 => show::<Gf4>(&rt, items),
+        16 => show::<Gf16>(&rt, items),
+        256 => show::<Table256>(&rt, items),
         _ => Err(anyhow!("the field has 4, 16 or 256 elements")),
     }
-}
-
-fn main(rt: HostRuntime) -> anyhow::Result<()> {
-    run(&rt)
 }

@@ -26,7 +26,8 @@ struct Trials<'a> {
 }
 
 impl<'a> Trials<'a> {
-    // Restores the codeword without the marked bays, and without each set of at most so many more of them below `end`.
+    // Restores the codeword without the marked bays, and without each set of at most so many more of them below `end`. The walk takes
+    // no closure for what is done with a set: that the closure may be called again after the sets below it was not proved.
     fn strike_below<F: BaseField>(&mut self, marks: &mut [u8], end: usize, more: u8) {
         self.tally.sets = self.tally.sets.saturating_add(1);
         if comes_back::<F>(self.codeword, marks, self.work.as_mut_slice()) {

@@ -15,6 +15,7 @@ pub enum RackError {
     NoMemory(AllocError),
 }
 
+// Each conversion is written out, since a derived `From` says nothing of its result.
 impl From<RackFault> for RackError {
     ghost from_gives = { λ x r. r ≡ Refused x };
 

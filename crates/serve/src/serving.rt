@@ -32,6 +32,7 @@ pub enum NotServed {
     Refused(Fault),
 }
 
+// Each conversion is written out, since a derived `From` says nothing of its result.
 impl From<AllocError> for NotServed {
     ghost from_gives = { λ x r. r ≡ Memory x };
 
