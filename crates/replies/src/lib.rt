@@ -9,7 +9,8 @@ use listing::text::Printable;
 use std::alloc::AllocError;
 use std::fmt;
 
-// The reply to a frame. A note's text is borrowed from the file.
+// The reply to a frame. A note's text is borrowed from the file. Three of its texts are those of a bank's answer; a call that is
+// not allowed is refused here, with a place in the file, so an answer is not a part of it.
 #[derive(Clone, Copy)]
 pub enum Reply<'a> {
     // The call is done.
