@@ -1,5 +1,5 @@
 -- What the loop over the lines of a text keeps. Assumes nothing.
-use Rattle.std.proofs.Common.{◌≡◌, ℕ, ◌+◌, ◌<◌, ◌≤◌, true, false, cond, not, List, [], ◌∷◌, ◌++◌, map, length, take, get_or, Some, None, Ok, Bor, Option, sym, refl, ap, ◌∙◌, subst, append-nil, arith}
+use Rattle.std.proofs.Common.{◌≡◌, ℕ, ◌+◌, ◌<◌, ◌≤◌, true, false, cond, not, List, [], ◌∷◌, ◌++◌, map, length, take, get_or, Some, None, Ok, Err, Bor, Option, sym, refl, ap, ◌∙◌, subst, append-nil, arith}
 use Rattle.std.proofs.lemmas.List.Elements.{filter-append}
 use Rattle.std.proofs.ByRecursion.{All-push}
 use Rattle.std.proofs.lemmas.List.{length-map, map_push, flat_map_more}
@@ -16,7 +16,9 @@ use Rattle.frame.specs.Laid.{Laid, ended, frame, Answered}
 use Rattle.frame.proofs.Laws.{meant_back, laid_same}
 use Rattle.parsing.specs.Line.{Sayable, Says}
 use Rattle.parsing.proofs.Telling.{says_only}
-use Rattle.composing.specs.Composed.{lines_of, silent, kept, Told, Composed, Reached, Bad, Overlong}
+use Rattle.composing.specs.Composed.{lines_of, silent, kept, Told, Composed, Reached, Bad, Overlong, Made, Answers}
+use Rattle.composing.specs.declared.ComposeError.{ComposeError}
+use Rattle.composing.specs.declared.ComposeError.TheVariants.{Line, TooLong, Memory}
 
 -- A frame that a line says can stand in a file.
 sayable_proper : (c : Content) → Sayable c → proper c ≡ true
@@ -162,6 +164,12 @@ module _ {file : List ℕ} {seen : List (List ℕ)} (turn : Turn seen file) (lin
 
       pub turn_bad : ((c : Content) → Says line c → ⊥) → Bad text number
       turn_bad bad = record { reached = reached; bad = bad }
+
+      -- What refuses a line refuses the text.
+      pub turn_refused : (e : ComposeError) → Made line number (Err e) → Answers text (Err e)
+      turn_refused (Line at reason) made = subst (Bad text) (sym made.0) (turn_bad made.1)
+      turn_refused (TooLong at) made = absurd made
+      turn_refused Memory made = tt
 
       pub turn_overlong : (c : Content) → Says line c → 32768 < length file + length (bytes_of c) → Overlong text number
       turn_overlong c s long = record { reached = reached; content = c; says = s; long = omega (arith, long, ap length turn.bytes) }

@@ -58,6 +58,13 @@ pub record Overlong (text : List ℕ) (number : ℕ) : Type 0 where
   pub says : Says reached.line content
   pub long : 32768 < length (flat_map bytes_of reached.contents) + length (bytes_of content)
 
+-- The bytes of the frame whose text the line is, or the line is the text of no frame, or there is no memory.
+abbrev pub Made : List ℕ → ℕ → Result (Vec ℕ Global) ComposeError → Type 0
+Made line number (Ok bytes) = (c : Content) × Says line c × (vec_items bytes ≡ bytes_of c)
+Made line number (Err (Line at reason)) = (at ≡ number) × ((c : Content) → Says line c → ⊥)
+Made line number (Err (TooLong at)) = ⊥
+Made line number (Err Memory) = Unit {0}
+
 abbrev pub Answers : List ℕ → Result (Vec ℕ Global) ComposeError → Type 0
 Answers text (Ok file) = Composed text (vec_items file)
 Answers text (Err (Line number reason)) = Bad text number

@@ -2,10 +2,10 @@
 #![tactic(auto)]
 
 ghost use Rattle.std.specs.Prelude.{◌≡◌};
-ghost use Rattle.composing.specs.Composed.{silent, Answers};
+ghost use Rattle.composing.specs.Composed.{silent, Made, Answers};
 ghost use Rattle.composing.specs.declared.ComposeError.TheVariants.{Memory};
 
-use frame::encode::encode;
+use frame::encode::{WriteFault, encode};
 use input::LONGEST_FILE;
 use parsing::parse::parse;
 use parsing::reason::Reason;
@@ -35,6 +35,15 @@ impl<'a> From<AllocError> for ComposeError<'a> {
     }
 }
 
+// What a line says can always be written, so only memory can be wanting.
+impl<'a> From<WriteFault> for ComposeError<'a> {
+    ghost from_gives = { λ _ r. r ≡ Memory };
+
+    fn from(_fault: WriteFault) -> ComposeError<'a> {
+        Self::Memory
+    }
+}
+
 // An empty line and a comment say nothing.
 fn is_silent(line: &[u8]) -> bool
     ensures { result ≡ silent line.now }
@@ -43,6 +52,18 @@ fn is_silent(line: &[u8]) -> bool
         [] => true,
         [first, ..] => *first == b'#',
     }
+}
+
+// The bytes of the frame that a line says; the line has this number.
+fn bytes_of_line<'a>(
+    heap: Global,
+    number: usize,
+    line: &'a [u8],
+) -> Result<Vec<u8>, ComposeError<'a>>
+    ensures { Made line.now number result }
+{
+    let frame = parse(line).map_err(|reason| ComposeError::Line { number, reason })?;
+    Ok(encode(heap, frame)?)
 }
 
 // The bytes of the round file that the text says.
@@ -55,20 +76,11 @@ pub fn compose<'a>(heap: Global, text: &'a [u8]) -> Result<Vec<u8>, ComposeError
             continue;
         }
         let number = before + 1;
-        // No `?` here and below: what `map_err` makes of an error is told of its closure alone, which no answer was found to use.
-        match parse(line) {
-            Ok(frame) => {
-                // What a line says can always be written, so only memory can be wanting here.
-                let Ok(bytes) = encode(heap, frame) else {
-                    return Err(ComposeError::Memory);
-                };
-                if file.len() + bytes.len() > LONGEST_FILE {
-                    return Err(ComposeError::TooLong { number });
-                }
-                file.extend_from_slice(bytes.as_slice())?;
-            }
-            Err(reason) => return Err(ComposeError::Line { number, reason }),
+        let bytes = bytes_of_line(heap, number, line)?;
+        if file.len() + bytes.len() > LONGEST_FILE {
+            return Err(ComposeError::TooLong { number });
         }
+        file.extend_from_slice(bytes.as_slice())?;
     }
     Ok(file)
 }
