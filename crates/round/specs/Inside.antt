@@ -7,8 +7,7 @@ use Rattle.round.specs.declared.rounds.Round.TheInside.{Inside}
 abbrev pub position : Inside → Position
 position r = record { file = file_of r.reader; offset = r.reader.offset; number = r.number }
 
--- Each frame takes a byte at least. That the file's length and its bytes are in range follows from its type, which the reader
--- hides from this crate: so it is kept here.
+-- No frame is shorter than a byte. The file's length and its bytes are in range: its type says so, but the reader hides it.
 pub record IsCounted (r : Inside) : Type 0 where
   pub counted : r.number ≤ r.reader.offset
   pub fits : length (file_of r.reader) < 2 ^ 64
