@@ -22,7 +22,7 @@ replied_at {r} {st} {text} p q x = subst₂ (λ t m. Replied r st text t m) p q 
 
 -- The frames that are left are replied to from where the next one begins.
 placed : (r r' : Round) (p : Placed) → Taken r p r' → (st : State) (more : List Heard) → Left r' more → replies (file_in r) st (end_of (file_in r) (here r)) more ≡ replies (file_in r') st (here r') more
-placed r r' p one st more l = elim one.place [ inl e ↦ rw (laid_none l e) refl | inr e ↦ rw (one.file, e) refl ]
+placed r r' p one st more l = elim one.place [ inl e ↦ rw (laid_none l e) refl | inr e ↦ λ i. replies (sym one.file i) st (sym e i) more ]
 
 module _ {r₀ : Round} {st₀ : State} {text₀ : List ℕ} {r : Round} {st : State} {text : List ℕ} {made : List Call} (course : Course r₀ st₀ text₀ r st text made) where
   -- One frame more.

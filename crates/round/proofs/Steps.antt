@@ -37,6 +37,10 @@ module _ (s t : Reader) where
   same_end : file_of t ≡ file_of s → t.offset + length (bytes_left t) ≡ s.offset + length (bytes_left s)
   same_end same = omega (arith, length-drop t.offset (file_of t), length-drop s.offset (file_of s), ap length same, s.within, t.within)
 
+  -- The next frame never begins before this one.
+  pub onward : file_of t ≡ file_of s → length (bytes_left t) < length (bytes_left s) → s.offset < t.offset
+  onward same less = omega (arith, same_end same, less)
+
   module _ (a : Result Frame FileFault) (one : Steps s (Some a) t) where
     pub reads_then : Bytes (file_of s) → (more : List Heard) → Laid t.offset (bytes_left t) more → Laid s.offset (bytes_left s) (told a ∷ more)
     reads_then small more l =

@@ -1,7 +1,7 @@
 -- What is left of a round file, and what reading a frame of it does. Assumes nothing.
-use Rattle.std.specs.Prelude.{◌≡◌, ℕ, ◌+◌, ◌<◌, ◌⊎◌, List, [], ◌∷◌, ◌++◌, length, drop, Some, None, Option}
+use Rattle.std.specs.Prelude.{◌≡◌, ℕ, ◌+◌, ◌<◌, ◌⊎◌, List, [], ◌∷◌, ◌++◌, length, Some, None, Option}
 use Rattle.call.specs.declared.Call.{Call}
-use Rattle.frame.specs.Reading.{Answer as Heard, told}
+use Rattle.frame.specs.Reading.{Answer as Heard, told, file_of, bytes_left}
 use Rattle.frame.specs.Laid.{Laid}
 use Rattle.round.specs.declared.rounds.Round.{Round}
 use Rattle.round.specs.declared.rounds.Placed.{Placed}
@@ -9,19 +9,15 @@ use Rattle.replies.specs.Lines.{lines_from}
 use Rattle.round.specs.Replies.{State, end_of, replies, calls}
 
 abbrev pub file_in : Round → List ℕ
-file_in r = r.file
+file_in r = file_of r.reader
 
 -- The offset of the next frame.
 abbrev pub here : Round → ℕ
-here r = r.offset
-
--- The bytes from there on.
-abbrev pub rest_in : Round → List ℕ
-rest_in r = drop (here r) (file_in r)
+here r = r.reader.offset
 
 -- These are the answers to the frames that are left.
 abbrev pub Left : Round → List Heard → Type 0
-Left r answers = Laid (here r) (rest_in r) answers
+Left r answers = Laid (here r) (bytes_left r.reader) answers
 
 -- One frame was read, and what is left comes after it.
 pub record Taken (r : Round) (p : Placed) (r' : Round) : Type 0 where
@@ -31,8 +27,8 @@ pub record Taken (r : Round) (p : Placed) (r' : Round) : Type 0 where
   pub file : file_in r' ≡ file_in r
   pub then : (more : List Heard) → Left r' more → Left r (told p.answer ∷ more)
   -- the next frame begins where this one ends, unless this one is cut short
-  pub place : (rest_in r' ≡ []) ⊎ (here r' ≡ end_of (file_in r) (here r))
-  pub less : length (rest_in r') < length (rest_in r)
+  pub place : (bytes_left r'.reader ≡ []) ⊎ (here r' ≡ end_of (file_in r) (here r))
+  pub less : length (bytes_left r'.reader) < length (bytes_left r.reader)
 
 abbrev pub Reads : Round → Option Placed → Round → Type 0
 Reads r None r' = Left r []

@@ -1,28 +1,19 @@
 // A round: what is still to be read of a round file.
-ghost use Rattle.std.specs.Prelude.{◌≡◌, length};
+ghost use Rattle.std.specs.Prelude.{◌≡◌, ℕ, ◌^◌, ◌<◌, ◌≤◌, length, slice_index};
 
 use fault::fault::FileFault;
 use frame::frame::Frame;
 use frame::reader::Reader;
-use std::marker::Model;
 
 // A reader, and the number of its next frame.
 #[derive(Drop)]
 pub struct Round<'a> {
     reader: Reader<'a>,
     number: usize,
-}
-
-impl<'a> Model for Round<'a> {
-    ghost use Rattle.round.specs.Position.{Position};
-
-    ghost Value = { Position };
-
-    ghost use Rattle.round.specs.Inside.{position, IsCounted};
-
-    ghost view = { position };
-
-    ghost invariant = { IsCounted };
+    ghost counted: { number ≤ reader.offset },
+    // What the type of the file says of it: the reader hides the file from this crate, and with it its type.
+    ghost fits: { length reader.file.now < 2 ^ 64 },
+    ghost bytes: { (i : ℕ) → slice_index reader.file.now i < 256 },
 }
 
 // A frame with its number in the file and the byte offset at which it begins.
@@ -34,9 +25,11 @@ pub struct Placed<'a> {
 }
 
 impl<'a> Round<'a> {
+    ghost use Rattle.round.specs.Rounds.{file_in, here};
+
     pub fn new(file: &'a [u8]) -> Round<'a>
-        ensures file { result.file ≡ file.now }
-        ensures start { result.offset ≡ 0 }
+        ensures file { file_in result ≡ file.now }
+        ensures start { here result ≡ 0 }
         ensures number { result.number ≡ 0 }
     {
         Round {
@@ -49,13 +42,14 @@ impl<'a> Round<'a> {
 // The frames that are left, one after the other. (`enumerate` over the reader would hide the offset, which a refusal names.)
 impl<'a> Iterator for Round<'a> {
     ghost use Rattle.std.specs.Iterator.{at_most};
-    ghost use Rattle.round.specs.Rounds.{rest_in, Reads};
+    ghost use Rattle.frame.specs.Reading.{bytes_left};
+    ghost use Rattle.round.specs.Rounds.{Reads};
 
     type Item = Placed<'a>;
 
     ghost next_gives = { Reads };
 
-    ghost remaining = { λ r. at_most (length (rest_in r)) };
+    ghost remaining = { λ r. at_most (length (bytes_left r.reader)) };
 
     fn next(&mut self) -> Option<Placed<'a>> {
         let number = self.number;

@@ -1,5 +1,5 @@
 -- The racks of a new hall, side by side. Assumes nothing.
-use Rattle.std.proofs.Common.{◌≡◌, ℕ, ◌+◌, ◌-◌, ◌*◌, Bool, true, false, cond, ltb, get_or, replicate, refl, inl, inr, arith}
+use Rattle.std.proofs.Common.{◌≡◌, ℕ, ◌+◌, ◌-◌, ◌*◌, ◌<◌, ◌≤◌, Bool, true, false, cond, ltb, ◌⊎◌, get_or, replicate, None, refl, inl, inr, arith}
 use Rattle.std.proofs.lemmas.List.{get_or-replicate, get_or_past}
 use lib.ListN.{length-replicate}
 use Rattle.std.proofs.lemmas.Bool.{cases_lt}
@@ -8,7 +8,9 @@ use Rattle.rack.specs.Meaning.{Meaning}
 use Rattle.rack.proofs.Laws.{same_meaning}
 use Rattle.plain_rack.specs.Plain.{place_of, word_in}
 use Rattle.plain_rack.specs.Shape.{fresh}
+use Rattle.plain_rack.proofs.Places.{place_within}
 use Rattle.joined_rack.specs.Beside.{beside}
+use Rattle.round.specs.Replies.{why_lines}
 use Rattle.serve.specs.Halls.{new_hall}
 
 -- A rack of zeros.
