@@ -1,5 +1,5 @@
 // The drawer of a bank.
-ghost use Rattle.std.specs.Prelude.{◌≡◌};
+ghost use Rattle.std.specs.Prelude.{◌≡◌, ◌≤◌, false};
 ghost use Rattle.bank.specs.Drawers.{known_of};
 
 use book::{Book, OpenBook};
@@ -15,7 +15,8 @@ pub enum Drawer<F: BaseField> {
 impl<F: BaseField> Drawer<F> {
     // Whether the book marks the bay as behind. The two books are two types, so each has its arm.
     pub fn is_behind(&self, bay: usize) -> bool
-        ensures { result ≡ (known_of self.now).behind bay }
+        ensures value { result ≡ (known_of self.now).behind bay }
+        ensures beyond { 260 ≤ bay → result ≡ false }
     {
         match self {
             Drawer::Closed(book) => book.is_behind(bay),

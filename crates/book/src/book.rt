@@ -1,5 +1,6 @@
 // The book with a closed drawer, and the calls that it offers.
-ghost use Rattle.std.specs.Prelude.{◌≡◌, length, Some, OnOk, OnErr, IfOk, IfErr};
+ghost use Rattle.std.specs.Prelude.{◌≡◌, ◌≤◌, false, length, Some, OnOk, OnErr, IfOk, IfErr};
+ghost use Rattle.field.specs.Structure.{size};
 ghost use Rattle.fault.specs.Refusing.{refusal_of};
 ghost use Rattle.codeword.specs.Codeword.{words};
 ghost use Rattle.rules.specs.Known.{front_of};
@@ -41,14 +42,17 @@ impl<F: BaseField> Model for Book<F> {
 impl<F: BaseField> Book<F> {
     // How many items the book has, N.
     pub fn items(&self) -> usize
-        ensures { result ≡ (knows self.now).items }
+        ensures value { result ≡ (knows self.now).items }
+        ensures some { 1 ≤ result }
+        ensures few { result ≤ size F.Field.structure }
     {
         self.items
     }
 
     // Whether a bay is behind.
     pub fn is_behind(&self, bay: usize) -> bool
-        ensures { result ≡ (knows self.now).behind bay }
+        ensures value { result ≡ (knows self.now).behind bay }
+        ensures beyond { 260 ≤ bay → result ≡ false }
     {
         self.behind.contains(bay)
     }

@@ -1,5 +1,5 @@
 // The book with an open drawer, between the release of a bay and its seating.
-ghost use Rattle.std.specs.Prelude.{◌≡◌, true, Some, None, OnOk, OnErr, IfOk, IfErr};
+ghost use Rattle.std.specs.Prelude.{◌≡◌, ◌≤◌, true, false, Some, None, OnOk, OnErr, IfOk, IfErr};
 ghost use Rattle.rack.specs.Calls.{exchange_after};
 ghost use Rattle.rules.specs.Known.{front_of, put, with_behind};
 ghost use Rattle.book.specs.Known.{knows};
@@ -63,7 +63,8 @@ impl<F: BaseField> Book<F> {
 impl<F: BaseField> OpenBook<F> {
     // Whether a bay is behind.
     pub fn is_behind(&self, bay: usize) -> bool
-        ensures { result ≡ (knows self.now.book).behind bay }
+        ensures value { result ≡ (knows self.now.book).behind bay }
+        ensures beyond { 260 ≤ bay → result ≡ false }
     {
         self.book.is_behind(bay)
     }

@@ -7,4 +7,4 @@ use Rattle.rack.specs.declared.error.RackError.TheVariants.{Refused, NoMemory}
 
 abbrev pub printed_error : RackError → List ℕ
 printed_error (Refused fault) = printed (row (Rack fault))
-printed_error (NoMemory error) = codes "no memory"
+printed_error (NoMemory error) = codes "memory allocation failed"

@@ -40,14 +40,14 @@ impl<T: Drop> From<AllocFailed<T>> for RackError {
     }
 }
 
-// A refusal as its fault, as `r 21 6`.
+// A refusal as its fault, as `r 21 6`; want of memory in the allocator's words.
 impl fmt::Display for RackError {
     ghost output = { λ x. Some (printed_error x) };
 
     fn fmt<W: fmt::Write>(&self, f: &mut fmt::Formatter<W>) -> fmt::Result {
         match self {
             RackError::Refused(fault) => Fault::from(*fault).fmt(f),
-            RackError::NoMemory(_) => f.write_str("no memory"),
+            RackError::NoMemory(_) => f.write_str("memory allocation failed"),
         }
     }
 }

@@ -1,7 +1,9 @@
 // What is printed of a rack and of an answer.
 ghost use Rattle.std.specs.Prelude.{◌≡◌};
 
+use anyhow::anyhow;
 use fault::fault::{Fault, RackFault};
+use rack::error::RackError;
 use rack::sides::Reading;
 use rack_listing::list_line;
 use std::fmt::Display;
@@ -43,7 +45,11 @@ pub(crate) fn show_line<R: Reading>(
     ensures { R.Reading.meaning rack.new ≡ R.Reading.meaning rack.old }
 {
     print!(rt; "line {line}:")?;
-    for entry in list_line(rt.alloc(), rack, line)? {
+    let entries = list_line(rt.alloc(), rack, line).map_err(|error| match error {
+        RackError::NoMemory(_) => anyhow!("no memory"),
+        refused => anyhow::Error::from(refused),
+    })?;
+    for entry in entries {
         match entry {
             Some(word) => print!(rt; " {word}")?,
             None => print!(rt; " -")?,

@@ -1,5 +1,5 @@
 // Sets of bays.
-ghost use Rattle.std.specs.Prelude.{◌≡◌, ℕ, ◌<◌, true, false, ◌==◌, if◌then◌else◌};
+ghost use Rattle.std.specs.Prelude.{◌≡◌, ℕ, ◌<◌, ◌≤◌, true, false, ◌==◌, if◌then◌else◌};
 ghost use Rattle.codeword.specs.Sums.{count};
 ghost use Rattle.worksheet.specs.Lines.{marked};
 
@@ -31,7 +31,8 @@ impl From<[bool; MOST_BAYS]> for BaySet {
 impl BaySet {
     // Whether a bay is in the set; one that no rack has is not.
     pub fn contains(&self, bay: usize) -> bool
-        ensures { result ≡ marked self.now bay }
+        ensures value { result ≡ marked self.now bay }
+        ensures beyond { 260 ≤ bay → result ≡ false }
     {
         self.marks.get(bay).copied().unwrap_or(false)
     }
