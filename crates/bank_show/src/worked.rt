@@ -69,7 +69,7 @@ pub(crate) fn show_worked(rt: &HostRuntime) -> anyhow::Result<()> {
     let mut looks = Looks::default();
     match run::<Gf4, PlainRack, Looks>(rt.alloc(), &mut rack, 2, &mut sheet, &MISSED, &mut looks) {
         Ok((drawer, answers)) => {
-            // By hand: calls have no text of their own, only as frames of a round file.
+            // By hand: only frames of a round file have a text, and crates of that file would be needed for this one line.
             println!(rt; "post 0 0 1, post 1 0 2, off 5, post 1 0 7, on 5")?;
             for answer in &answers {
                 println!(rt; "answer: {answer}")?;

@@ -126,6 +126,7 @@ fn main(rt: HostRuntime) -> anyhow::Result<()> {
         "kind 10 with each length of body: {}",
         lengths(rt.alloc(), 10)?
     )?;
+    // Not by `?`, which would end the program where this prints why the file was not written.
     match cuts(rt.alloc()) {
         Ok(tally) => println!(rt; "six frames, cut after each byte: {tally}")?,
         Err(fault) => println!(rt; "not written: {fault:?}")?,

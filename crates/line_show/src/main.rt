@@ -19,7 +19,7 @@ fn arguments(rt: &HostRuntime) -> anyhow::Result<Vec<u16>> {
         .try_collect(rt.alloc())
 }
 
-// The check words of the items, and the items.
+// The check words of the items, and the items. The message has no cause behind it, since a user knows which items he wrote.
 fn codeword<F: BaseField>(heap: Global, items: &[u16]) -> anyhow::Result<Vec<u16>> {
     let mut checks = [0u16; 4];
     line_code::encode::<F>(items, &mut checks).map_err(|_| anyhow!(
