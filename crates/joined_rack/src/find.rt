@@ -1,5 +1,6 @@
 // Where a bay of a joined rack lies, and how its faults are named.
 ghost use Rattle.std.specs.Prelude.{◌≡◌};
+ghost use Rattle.rack.specs.Meaning.{InRange};
 ghost use Rattle.joined_rack.specs.Beside.{bay_place, cell_place, naming_bay};
 
 use crate::pair::{JoinedRack, Part};
@@ -21,6 +22,8 @@ impl<F: Reading, S: Reading> JoinedRack<F, S> {
     // Where a bay lies, or the refusal.
     pub(crate) fn part(&mut self, bay: usize) -> Result<Part, RackFault>
         ensures answer { result ≡ bay_place (F.Reading.meaning self.old.first) (S.Reading.meaning self.old.second) bay }
+        ensures first_ranges { InRange (F.Reading.meaning self.old.first) }
+        ensures second_ranges { InRange (S.Reading.meaning self.old.second) }
         ensures first { F.Reading.meaning self.new.first ≡ F.Reading.meaning self.old.first }
         ensures second { S.Reading.meaning self.new.second ≡ S.Reading.meaning self.old.second }
     {
@@ -38,6 +41,8 @@ impl<F: Reading, S: Reading> JoinedRack<F, S> {
     // Where the bay of a bay and a line lies, or the refusal.
     pub(crate) fn cell_part(&mut self, bay: usize, line: usize) -> Result<Part, RackFault>
         ensures answer { result ≡ cell_place (F.Reading.meaning self.old.first) (S.Reading.meaning self.old.second) bay line }
+        ensures first_ranges { InRange (F.Reading.meaning self.old.first) }
+        ensures second_ranges { InRange (S.Reading.meaning self.old.second) }
         ensures first { F.Reading.meaning self.new.first ≡ F.Reading.meaning self.old.first }
         ensures second { S.Reading.meaning self.new.second ≡ S.Reading.meaning self.old.second }
     {

@@ -1,7 +1,6 @@
 // The two sides of a joined rack. Each call names its step at both parts, whose types differ: a function over the parts would
 // need the step twice too, as two closures.
 ghost use Rattle.joined_rack.specs.Beside.{joined_meaning};
-ghost use Rattle.joined_rack.specs.Ranges.{beside_in_range};
 
 use crate::find::naming;
 use crate::pair::{JoinedRack, Part};
@@ -11,14 +10,13 @@ use rack::sides::{Reading, Serving};
 impl<F: Reading, S: Reading> Reading for JoinedRack<F, S> {
     ghost meaning = { joined_meaning F.Reading.meaning S.Reading.meaning };
 
-    ghost in_range = { λ x. beside_in_range (F.Reading.meaning x.first) (S.Reading.meaning x.second) x.joinable (F.Reading.in_range x.first) (S.Reading.in_range x.second) };
-
     fn bays(&mut self) -> usize {
         self.first.bays() + self.second.bays()
     }
 
+    // Both have as many lines. Each is asked, since the ranges of the whole follow from those of both.
     fn lines(&mut self) -> usize {
-        self.first.lines()
+        self.first.lines().min(self.second.lines())
     }
 
     fn read(&mut self, bay: usize, line: usize) -> Result<u16, RackFault> {
@@ -35,6 +33,14 @@ impl<F: Serving, S: Serving> Serving for JoinedRack<F, S> {
             Part::First(b) => self.first.write(b, line, word),
             Part::Second(b) => naming(self.second.write(b, line, word), bay),
         }
+    }
+
+    fn off(&mut self, bay: usize) -> Result<(), RackFault> {
+        self.switch(bay, false)
+    }
+
+    fn on(&mut self, bay: usize) -> Result<(), RackFault> {
+        self.switch(bay, true)
     }
 
     fn switch(&mut self, bay: usize, on: bool) -> Result<(), RackFault> {

@@ -1,8 +1,8 @@
 // The two sides of a plain rack.
 ghost use Rattle.std.specs.Prelude.{◌≡◌};
+ghost use Rattle.rack.specs.Meaning.{InRange};
 ghost use Rattle.rack.specs.Calls.{switch_answer, exchange_after};
 ghost use Rattle.plain_rack.specs.Plain.{blank, plain_meaning};
-ghost use Rattle.plain_rack.specs.Ranges.{plain_in_range};
 
 use crate::parts::PlainRack;
 use fault::fault::RackFault;
@@ -10,8 +10,6 @@ use rack::sides::{Reading, Serving};
 
 impl Reading for PlainRack {
     ghost meaning = { plain_meaning };
-
-    ghost in_range = { plain_in_range };
 
     fn bays(&mut self) -> usize {
         self.shape.bays
@@ -34,6 +32,14 @@ impl Serving for PlainRack {
         Ok(())
     }
 
+    fn off(&mut self, bay: usize) -> Result<(), RackFault> {
+        self.switch(bay, false)
+    }
+
+    fn on(&mut self, bay: usize) -> Result<(), RackFault> {
+        self.switch(bay, true)
+    }
+
     fn switch(&mut self, bay: usize, on: bool) -> Result<(), RackFault> {
         self.check_bay(bay)?;
         self.switches[bay] = on;
@@ -43,6 +49,7 @@ impl Serving for PlainRack {
     // The bay then holds 65535 in each line.
     fn exchange(&mut self, bay: usize) -> Result<(), RackFault>
         ensures answer { result ≡ switch_answer (plain_meaning self.old) bay }
+        ensures ranges { InRange (plain_meaning self.new) }
         ensures after { plain_meaning self.new ≡ exchange_after (plain_meaning self.old) bay ((plain_meaning self.new).word bay) }
         ensures blank { plain_meaning self.new ≡ exchange_after (plain_meaning self.old) bay blank }
     {

@@ -1,6 +1,6 @@
 // What can be found out of a rack of any make by its reading side alone.
 ghost use Rattle.std.specs.Prelude.{◌≡◌};
-ghost use Rattle.rack.specs.Meaning.{answers};
+ghost use Rattle.rack.specs.Meaning.{InRange, answers};
 ghost use Rattle.rack.specs.Calls.{answer, bay_refusal, entry_answer};
 
 use crate::sides::Reading;
@@ -9,6 +9,7 @@ use fault::fault::RackFault;
 // The word of a bay that answers, and none of a silent one.
 pub fn entry<R: Reading>(rack: &mut R, bay: usize, line: usize) -> Result<Option<u16>, RackFault>
     ensures answer { result ≡ entry_answer (R.Reading.meaning rack.old) line bay }
+    ensures ranges { InRange (R.Reading.meaning rack.old) }
     ensures after { R.Reading.meaning rack.new ≡ R.Reading.meaning rack.old }
 {
     match rack.read(bay, line) {

@@ -5,8 +5,6 @@ use fault::fault::RackFault;
 impl<R: Reading> Reading for &mut R {
     ghost meaning = { λ x. R.Reading.meaning x.now };
 
-    ghost in_range = { λ x. R.Reading.in_range x.now };
-
     fn bays(&mut self) -> usize {
         (**self).bays()
     }
@@ -23,6 +21,14 @@ impl<R: Reading> Reading for &mut R {
 impl<R: Serving> Serving for &mut R {
     fn write(&mut self, bay: usize, line: usize, word: u16) -> Result<(), RackFault> {
         (**self).write(bay, line, word)
+    }
+
+    fn off(&mut self, bay: usize) -> Result<(), RackFault> {
+        (**self).off(bay)
+    }
+
+    fn on(&mut self, bay: usize) -> Result<(), RackFault> {
+        (**self).on(bay)
     }
 
     fn switch(&mut self, bay: usize, on: bool) -> Result<(), RackFault> {

@@ -16,20 +16,20 @@ pub trait Reading {
     // How many bays the rack has.
     fn bays(&mut self) -> usize
         ensures answer { result ≡ (meaning self.old).bays }
+        ensures ranges { InRange (meaning self.old) }
         ensures after { meaning self.new ≡ meaning self.old };
 
     // How many lines each bay has.
     fn lines(&mut self) -> usize
         ensures answer { result ≡ (meaning self.old).lines }
+        ensures ranges { InRange (meaning self.old) }
         ensures after { meaning self.new ≡ meaning self.old };
 
     // The word of a bay and a line.
     fn read(&mut self, bay: usize, line: usize) -> Result<u16, RackFault>
         ensures answer { result ≡ read_answer (meaning self.old) bay line }
+        ensures ranges { InRange (meaning self.old) }
         ensures after { meaning self.new ≡ meaning self.old };
-
-    // In whatever state a rack is, its sizes and words lie within the ranges.
-    ghost in_range: { (x : Self) → InRange (meaning x) };
 }
 
 // The serving side, which builds on the reading side.
@@ -39,30 +39,29 @@ pub trait Serving: Reading {
         ensures answer { result ≡ write_answer (Self.Reading.meaning self.old) bay line }
         ensures after { Self.Reading.meaning self.new ≡ write_after (Self.Reading.meaning self.old) bay line word };
 
-    // Sets the bay's switch on or off. The bay keeps its words.
-    fn switch(&mut self, bay: usize, on: bool) -> Result<(), RackFault>
-        ensures answer { result ≡ switch_answer (Self.Reading.meaning self.old) bay }
-        ensures after { Self.Reading.meaning self.new ≡ switch_after (Self.Reading.meaning self.old) bay on };
-
     // Sets the bay's switch off. The bay keeps its words.
     fn off(&mut self, bay: usize) -> Result<(), RackFault>
         ensures answer { result ≡ switch_answer (Self.Reading.meaning self.old) bay }
-        ensures after { Self.Reading.meaning self.new ≡ switch_after (Self.Reading.meaning self.old) bay false }
-    {
-        self.switch(bay, false)
-    }
+        ensures after { Self.Reading.meaning self.new ≡ switch_after (Self.Reading.meaning self.old) bay false };
 
     // Sets the bay's switch on. The bay holds what it held.
     fn on(&mut self, bay: usize) -> Result<(), RackFault>
         ensures answer { result ≡ switch_answer (Self.Reading.meaning self.old) bay }
-        ensures after { Self.Reading.meaning self.new ≡ switch_after (Self.Reading.meaning self.old) bay true }
+        ensures after { Self.Reading.meaning self.new ≡ switch_after (Self.Reading.meaning self.old) bay true };
+
+    // Sets the bay's switch on or off. The bay keeps its words. A make that has one step for both writes it here, and its `off` and
+    // `on` over it; they have no such bodies in this trait, since bodies provided over each other would be a ring.
+    fn switch(&mut self, bay: usize, on: bool) -> Result<(), RackFault>
+        ensures answer { result ≡ switch_answer (Self.Reading.meaning self.old) bay }
+        ensures after { Self.Reading.meaning self.new ≡ switch_after (Self.Reading.meaning self.old) bay on }
     {
-        self.switch(bay, true)
+        if on { self.on(bay) } else { self.off(bay) }
     }
 
     // Puts another controller into the bay and switches it on. The words that it comes with are not fixed: they are
     // those that the rack means after the call, each of 16 bits.
     fn exchange(&mut self, bay: usize) -> Result<(), RackFault>
         ensures answer { result ≡ switch_answer (Self.Reading.meaning self.old) bay }
+        ensures ranges { InRange (Self.Reading.meaning self.new) }
         ensures after { Self.Reading.meaning self.new ≡ exchange_after (Self.Reading.meaning self.old) bay ((Self.Reading.meaning self.new).word bay) };
 }
