@@ -3,6 +3,7 @@ ghost use Rattle.std.specs.Prelude.{◌≡◌, ◌≤◌, false, length, Some, O
 ghost use Rattle.field.specs.Structure.{size};
 ghost use Rattle.fault.specs.Refusing.{refusal_of};
 ghost use Rattle.codeword.specs.Codeword.{words};
+ghost use Rattle.rack.specs.Meaning.{InRange};
 ghost use Rattle.rules.specs.Known.{front_of};
 ghost use Rattle.book.specs.Known.{knows};
 ghost use Rattle.book.specs.Mending.{Ready};
@@ -60,6 +61,7 @@ impl<F: BaseField> Book<F> {
     // Whether the rack is the book's, by its numbers of bays and lines.
     pub(crate) fn admit_rack<R: Reading>(&self, rack: &mut R) -> Result<(), BookFault>
         ensures refused { refusal_of result ≡ why_seat (knows self.now) (front_of (R.Reading.meaning rack.old)) }
+        ensures ranges { InRange (R.Reading.meaning rack.old) }
         ensures after { R.Reading.meaning rack.new ≡ R.Reading.meaning rack.old }
     {
         let bays = rack.bays();
@@ -72,6 +74,7 @@ impl<F: BaseField> Book<F> {
     // Whether the rack is the book's, and the worksheet long enough.
     fn admit_sheet<R: Reading>(&self, rack: &mut R, room: usize) -> Result<(), BookFault>
         ensures refused { refusal_of result ≡ why_sheet (knows self.now) (front_of (R.Reading.meaning rack.old)) room }
+        ensures ranges { InRange (R.Reading.meaning rack.old) }
         ensures after { R.Reading.meaning rack.new ≡ R.Reading.meaning rack.old }
     {
         self.admit_rack(rack)?;
@@ -90,6 +93,7 @@ impl<F: BaseField> Book<F> {
         line: usize,
     ) -> Result<(), BookFault>
         ensures refused { refusal_of result ≡ why_cell (knows self.now) (front_of (R.Reading.meaning rack.old)) room item line }
+        ensures ranges { InRange (R.Reading.meaning rack.old) }
         ensures after { R.Reading.meaning rack.new ≡ R.Reading.meaning rack.old }
     {
         self.admit_sheet(rack, room)?;

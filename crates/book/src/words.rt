@@ -30,6 +30,7 @@ pub(crate) fn set_item<F: BaseField>(sheet: &mut [u16], items: usize, item: usiz
 impl<F: BaseField> Book<F> {
     // Gives a bay its word of a line, unless it is behind. One that is silent is behind from now on.
     pub(crate) fn send<R: Serving>(&mut self, rack: &mut R, bay: usize, line: usize, word: u16)
+        requires few { bay < 260 }
         requires bay { bay < (R.Reading.meaning rack.old).bays }
         requires line { line < (R.Reading.meaning rack.old).lines }
         ensures { Sent (knows self.old) (R.Reading.meaning rack.old) (λ b. nat_eq b bay) line (λ _. word) (knows self.new) (R.Reading.meaning rack.new) }
@@ -51,6 +52,7 @@ impl<F: BaseField> Book<F> {
         line: usize,
     )
         requires item { item + 4 < length sheet.now }
+        requires few { item + 4 < 260 }
         requires bay { item + 4 < (R.Reading.meaning rack.old).bays }
         requires line { line < (R.Reading.meaning rack.old).lines }
         ensures { Sent (knows self.old) (R.Reading.meaning rack.old) (concerned item) line (λ b. slice_index sheet.now b) (knows self.new) (R.Reading.meaning rack.new) }

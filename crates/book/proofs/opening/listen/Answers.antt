@@ -1,4 +1,5 @@
-use Rattle.std.proofs.Common.{◌≡◌, ℕ, ◌+◌, Bool, true, false, not, List, is_err, sym, refl, ◌∙◌, subst, arith}
+use Rattle.std.proofs.Common.{◌≡◌, ℕ, ◌+◌, ◌≤◌, Bool, true, false, not, List, is_err, sym, refl, ◌∙◌, subst, arith}
+use Rattle.rack.specs.Meaning.{Meaning}
 use Rattle.worksheet.specs.Lines.{marked}
 use Rattle.book.specs.Sending.{silent_below}
 use Rattle.book.proofs.Hearing.{asked, heard_none, heard_skip, heard_more}
@@ -13,7 +14,7 @@ loop-bay-preserved g c =
     let m = g.R.Reading.meaning c.args.rack.now in
     let bay = c.loop-bay.bay in
     let so = c.loop-bay.invariant in
-    let some = (g.met.R.Reading.in_range c.args.rack.now).some_lines in
+    let some : 1 ≤ m.lines = subst (λ (x : Meaning). 1 ≤ x.lines) so.same c.read.ensures.ranges.some_lines in
     let refuses : (b : Bool) → is_err c.read.result ≡ b → m.switch bay ≡ not b =
     λ b e. asked m _ so.same bay 0 (omega arith) some c.read.result c.read.ensures.answer b e in
     let Heard : List Bool → Type 0 = λ marks. (b : ℕ) → marked marks b ≡ silent_below m.switch (bay + 1) b in
