@@ -4,6 +4,7 @@ ghost use Rattle.extension.specs.Extend.{extend};
 ghost use Rattle.extension.specs.Formulas.{embed, root_u};
 ghost use Rattle.std.proofs.Common.{arith};
 
+use fault::fault::BookFault;
 use field::{BaseField, Field};
 
 // The element lo + hi u; its number is lo's plus q times hi's.
@@ -57,6 +58,13 @@ impl<F: BaseField> Field for Ext<F> {
     #[tactic(auto, using(crate::proofs::Parts::order_is))]
     fn order() -> u32 {
         F::order() * F::order()
+    }
+
+    fn from_number(n: u32) -> Result<Ext<F>, BookFault> {
+        if n >= Self::order() {
+            return Err(BookFault::NoElement(n as usize));
+        }
+        Ok(Self::element(n))
     }
 
     #[tactic(auto, unfolding(crate::specs::Extend::extend), using(crate::proofs::Parts::high_lt))]

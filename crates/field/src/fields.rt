@@ -14,23 +14,20 @@ pub trait Field: Copy {
     fn order() -> u32
         ensures { result ≡ size structure };
 
-    // The element of a number below q.
+    // The element of a number, if it is below q.
+    fn from_number(n: u32) -> Result<Self, BookFault>
+        ensures { result ≡ element_answer structure n };
+
+    // The element of a number below q. A field that need not test the number again writes it anew.
     fn element(n: u32) -> Self
         requires { n < size structure }
-        ensures { result ≡ structure.of n };
+        ensures { result ≡ structure.of n }
+    {
+        Self::from_number(n).unwrap()
+    }
 
     fn number(self) -> u32
         ensures { result ≡ structure.value self };
-
-    // The element of a number, if it is below q. Not a `TryFrom`, which each field would have to write out.
-    fn from_number(n: u32) -> Result<Self, BookFault>
-        ensures { result ≡ element_answer structure n }
-    {
-        if n >= Self::order() {
-            return Err(BookFault::NoElement(n as usize));
-        }
-        Ok(Self::element(n))
-    }
 
     fn zero() -> Self
         ensures { result ≡ structure.zero }

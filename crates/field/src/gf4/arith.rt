@@ -4,6 +4,7 @@ ghost use Rattle.field.specs.Four.{four};
 
 use crate::fields::{BaseField, Field};
 use crate::gf4::Gf4;
+use fault::fault::BookFault;
 
 // The product of a and b stands at 4 a + b.
 const PRODUCTS: [u8; 16] = [0, 0, 0, 0, 0, 1, 2, 3, 0, 2, 3, 1, 0, 3, 1, 2];
@@ -17,6 +18,13 @@ impl Field for Gf4 {
 
     fn order() -> u32 {
         4
+    }
+
+    fn from_number(n: u32) -> Result<Gf4, BookFault> {
+        if n >= 4 {
+            return Err(BookFault::NoElement(n as usize));
+        }
+        Ok(Self::element(n))
     }
 
     fn element(n: u32) -> Gf4 {

@@ -8,6 +8,7 @@ ghost use Rattle.std.proofs.Math.Dec.{lit≤};
 use crate::table256::Table256;
 use crate::table256::logarithm_table::LOGARITHMS;
 use crate::table256::power_table::POWERS;
+use fault::fault::BookFault;
 use field::{BaseField, Field};
 
 // The number of the power i of 18.
@@ -33,6 +34,13 @@ impl Field for Table256 {
 
     fn order() -> u32 {
         256
+    }
+
+    fn from_number(n: u32) -> Result<Table256, BookFault> {
+        if n >= 256 {
+            return Err(BookFault::NoElement(n as usize));
+        }
+        Ok(Self::element(n))
     }
 
     fn element(n: u32) -> Table256 {
