@@ -10,6 +10,7 @@ pub const MOST_BAYS: usize = 260;
 pub const MOST_LINES: usize = 64;
 
 // The reading side. A read over a wire sends, so each call takes the rack for writing, and promises that nothing changed.
+// The ranges stand with each call and are no law: a caller through a trait object learns no laws.
 pub trait Reading {
     ghost meaning: { Self → Meaning };
 
