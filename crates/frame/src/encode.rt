@@ -6,7 +6,7 @@ ghost use Rattle.frame.specs.Format.{two, framed, content, bytes_of, call as sai
 ghost use Rattle.frame.specs.Kinds.{number_of};
 ghost use Rattle.frame.specs.Writing.{Written, ReadsBack};
 
-use crate::frame::{Call, Frame, LONGEST_BODY, LONGEST_NOTE};
+use crate::frame::{Call, Frame, HEAD, LONGEST_BODY, LONGEST_NOTE};
 use crate::kind::Kind;
 use std::alloc::{AllocError, Global};
 use thiserror::Error;
@@ -32,14 +32,16 @@ impl From<AllocError> for WriteFault {
     }
 }
 
-// The head of a frame of this kind: the length of the body and the kind, two bytes each.
+// The head of a frame of this kind: the length of the body and the kind, two bytes each. Behind it is room for the body.
 fn head(heap: Global, kind: u16, length: usize) -> Result<Vec<u8>, AllocError>
     requires { length < 65536 }
     ensures { IfOk result (λ v. v.items ≡ two length ++ two kind) }
 {
     let [a, b] = (length as u16).to_le_bytes();
     let [c, d] = kind.to_le_bytes();
-    Vec::from_slice(heap, &[a, b, c, d])
+    let mut frame = Vec::with_capacity(heap, HEAD + length)?;
+    frame.extend_from_slice(&[a, b, c, d])?;
+    Ok(frame)
 }
 
 // A frame of this kind around the body.

@@ -1,6 +1,9 @@
 // What the frames of a round file say.
 pub use call::Call;
 
+// The bytes of a frame before its body: two of length and two of kind.
+pub(crate) const HEAD: usize = 4;
+
 // The longest text of a note, in bytes.
 pub const LONGEST_NOTE: usize = 60;
 

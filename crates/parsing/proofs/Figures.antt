@@ -1,16 +1,27 @@
 -- Numbers as they are printed. Assumes nothing.
-use Rattle.std.proofs.Common.{◌≡◌, ℕ, zero, suc, ◌+◌, ◌^◌, ◌<◌, ◌≤◌, Bool, true, false, eqb, leb, inl, inr, ◌⊎◌, leb-true, List, [], ◌∷◌, ◌++◌, length, get_or, take, is_some, Some, None, Ok, Err, decimal, Option, Result, IsOk, IsErr, IsErrAnd, MatchResult, sym, refl, ap, ◌∙◌, subst, append_assoc, append-nil, arith, length-append, rules}
+use Rattle.std.proofs.Common.{◌≡◌, ℕ, zero, suc, ◌+◌, ◌-◌, ◌*◌, ◌^◌, ◌<◌, ◌≤◌, Bool, true, false, cond, eqb, leb, ltb, inl, inr, ◌⊎◌, leb-true, List, [], ◌∷◌, ◌++◌, map, length, get_or, take, is_some, Some, None, Ok, Err, decimal, Bor, Option, Result, IsOk, IsErr, IsErrAnd, MatchOption, MatchResult, sym, refl, ap, ◌∙◌, subst, append_assoc, append-nil, arith, length-append, rules}
 use Rattle.std.proofs.lemmas.Fmt.{digits_decimal, digits_value-decimal, decimal-digits_value, decimal_nonempty, decimal_digit, first_decimal, decimal_injective}
 use Rattle.std.specs.Str.{IsUtf8}
-use Rattle.std.proofs.lemmas.List.{get_or_past}
+use Rattle.std.proofs.lemmas.List.{get_or_past, map_push}
 use Rattle.std.proofs.lemmas.Str.{IsUtf8-from_ascii}
-use Rattle.std.proofs.lemmas.Str.Parse.{IsNumeralModel, numerals_by_value, parse_digits}
+use Rattle.std.proofs.lemmas.Str.Parse.{IsNumeralModel, numerals_by_value, parse_digits, digits_value-take-le}
+use Rattle.std.proofs.lemmas.Int.Digits.{digits_value_push, digits_value_more}
+use Rattle.std.proofs.lemmas.Fn.{chained_keeps}
+use Rattle.std.proofs.lemmas.Iterator.{YieldsList}
+use Rattle.std.proofs.lemmas.Iterator.Consumers.{YieldsList-so_far, YieldsList-turn, YieldsList-end}
+use Rattle.std.specs.Fn.{Called}
+use Rattle.std.specs.Iterator.{Yields, TryFoldTurn, TryFoldsItems}
+use Rattle.std.specs.List.{FoldsTo}
+use Rattle.std.specs.Char.{digit_value}
+use Rattle.std.specs.declared.ops.ControlFlow.{ControlFlow}
+use Rattle.std.specs.ControlFlow.{continue_value}
+use denote.Param.Members.{Mut}
 use Rattle.std.proofs.ByRecursion.{All-push}
 use Rattle.std.specs.List.{AllByRecursion}
 use Rattle.std.specs.Result.{OkIff}
 use Rattle.std.proofs.lemmas.Bool.Decides.{nat_tests}
 use Rattle.std.specs.Str.Parse.{digits_value, ParsesUnsigned}
-use Rattle.std.specs.Option.{option_map}
+use Rattle.std.specs.Option.{option_map, ok_or}
 use Rattle.parsing.specs.Numbers.{Settles, seen, numeral, Field, spaced, Numbers}
 use Rattle.parsing.specs.Splits.{front_of, back_of, behind, within}
 use Rattle.parsing.proofs.Parting.{clear, parts_whole, front_clear, back_clear, within_first}
@@ -32,6 +43,9 @@ within_take low high (byte ∷ bytes) (suc i) e =
     let l = p.0 in
     let h = p.1 in
     grind (arith, nat_tests)
+
+pub inside : {X : Type 0} (x y : X) → ◌≡◌ {A = Option X} (Some x) (Some y) → x ≡ y
+inside x y e = cc
 
 -- Digits hold no space.
 pub digits_clear : (ds : List ℕ) → within 48 57 ds ≡ true → clear 32 ds ≡ true
@@ -108,6 +122,108 @@ digits_utf8 field e = IsUtf8-from_ascii field (λ i. small i (either (length fie
     small i (inl past) = omega (arith, get_or_past field i 0 past)
     small i (inr here) = let p = within_at 48 57 field i figures here in let h = p.1 in omega arith
 
+within_push : (ds : List ℕ) (d : ℕ) → within 48 57 (ds ++ (d ∷ [])) ≡ true → (within 48 57 ds ≡ true) × (48 ≤ d) × (d ≤ 57)
+within_push [] d e = let p = within_first 48 57 d true e in (refl, p.0, p.1)
+within_push (byte ∷ ds) d e =
+    let p = within_first 48 57 byte (within 48 57 (ds ++ (d ∷ []))) e in
+    let more = within_push ds d p.2 in
+    let l = p.0 in
+    let h = p.1 in
+    let first = more.0 in
+    (grind (arith, nat_tests), more.1, more.2)
+
+-- The number with one digit more, where two bytes hold it.
+abbrev pub more_digit : ℕ → ℕ → Option ℕ
+more_digit n d = cond (ltb (n * 10 + (d - 48)) 65536) (Some (n * 10 + (d - 48))) None
+
+held : (n m : ℕ) → Some m ≡ cond (ltb n 65536) (Some n) None → (m ≡ n) × (n < 65536)
+held n m e = by (ltb n 65536) refl e
+  where
+    by : (b : Bool) → ltb n 65536 ≡ b → Some m ≡ cond b (Some n) None → (m ≡ n) × (n < 65536)
+    by true l e = (inside m n e, grind (arith, nat_tests))
+    by false l e = absurd (grind arith)
+
+unheld : (n : ℕ) → ◌≡◌ {A = Option ℕ} None (cond (ltb n 65536) (Some n) None) → 65535 < n
+unheld n e = by (ltb n 65536) refl e
+  where
+    by : (b : Bool) → ltb n 65536 ≡ b → ◌≡◌ {A = Option ℕ} None (cond b (Some n) None) → 65535 < n
+    by true l e = absurd (grind arith)
+    by false l e = grind (arith, nat_tests)
+
+value_push : (ds : List ℕ) (d : ℕ) → 48 ≤ d → d ≤ 57 → digits_value 10 ds * 10 + (d - 48) ≡ digits_value 10 (ds ++ (d ∷ []))
+value_push ds d l h =
+    let same : digit_value d ≡ d - 48 = grind (arith, nat_tests) in
+    sym (digits_value_push 10 ds d ∙ ap (λ n. digits_value 10 ds * 10 + n) same)
+
+-- The number so far is what the digits so far write.
+abbrev Summed : List ℕ → ℕ → Type 0
+Summed ds n = within 48 57 ds ≡ true → (n ≡ digits_value 10 ds) × (n < 65536)
+
+summed_more : (ds : List ℕ) (d n m : ℕ) → Summed ds n → Some m ≡ more_digit n d → Summed (ds ++ (d ∷ [])) m
+summed_more ds d n m sofar e figures =
+    let p = within_push ds d figures in
+    let q = held (n * 10 + (d - 48)) m e in
+    let same : n * 10 + (d - 48) ≡ digits_value 10 (ds ++ (d ∷ [])) = ap (λ k. k * 10 + (d - 48)) (sofar p.0).0 ∙ value_push ds d p.1 p.2 in
+    (q.0 ∙ same, omega (arith, q.0, q.1))
+
+at_of : (ds : List ℕ) (i d : ℕ) → i < length ds → d ≡ get_or ds i d → d ≡ get_or ds i 0
+at_of [] i d h e = absurd (omega arith)
+at_of (x ∷ ds) zero d h e = e
+at_of (x ∷ ds) (suc i) d h e = at_of ds i d (omega arith) e
+
+abbrev bytes_in : List (Bor ℕ) → List ℕ
+bytes_in items = map (λ (b : Bor ℕ). b.now) items
+
+-- A numeral is read digit by digit, for as long as two bytes hold the number.
+module _ {S : Type 0} {steps : S → Option (Bor ℕ) → S → Type 0} {s : S} (field : List ℕ) (is : numeral field ≡ true) (road : YieldsList steps (λ (b : Bor ℕ). b.now) s field) where
+  figures : within 48 57 field ≡ true
+  figures = grind (arith, nat_tests)
+
+  -- Each item is a digit.
+  pub item_is : (items : List (Bor ℕ)) (t : S) (item : Bor ℕ) (u : S) → Yields steps s items t → steps t (Some item) u
+      → (length items < length field) × (item.now ≡ get_or field (length items) 0) × (48 ≤ item.now) × (item.now ≤ 57)
+  item_is items t item u y step =
+      let turn = YieldsList-turn road items t y (Some item) u item refl step in
+      let at = at_of field (length items) item.now turn.0 turn.1 in
+      let p = within_at 48 57 field (length items) figures turn.0 in
+      (turn.0, at, subst (λ n. 48 ≤ n) (sym at) p.0, subst (λ n. n ≤ 57) (sym at) p.1)
+
+  module _ {F : Type 0} (E : Type 0) (g : Mut F (ℕ × (Bor ℕ × Unit {0})) (Option ℕ))
+      (gives : (h : F) (n : ℕ) (item : Bor ℕ) (r : Option ℕ) (k : F) → Called g h (n, (item, tt)) r k → r ≡ more_digit n item.now) where
+    -- `?` goes on at a number, and ends at none.
+    abbrev goes_on : Option ℕ → ControlFlow E ℕ → Type 0
+    goes_on r b = r ≡ continue_value b
+
+    summed : (items : List (Bor ℕ)) (f : F) (q : F × ℕ) → FoldsTo {P = F × ℕ} (TryFoldTurn g goes_on) (f, 0) items q → Summed (bytes_in items) q.1
+    summed items f q folds =
+        chained_keeps (TryFoldTurn g goes_on) (λ (xs : List (Bor ℕ)) (p : F × ℕ). Summed (bytes_in xs) p.1)
+        (λ xs p item v sofar turn. subst (λ ds. Summed ds v.1) (sym (map_push (λ (b : Bor ℕ). b.now) xs item))
+        (summed_more (bytes_in xs) item.now p.1 v.1 sofar (sym turn.2 ∙ gives p.0 p.1 item turn.0 v.0 turn.1)))
+        items (f, 0) q (λ e. (refl, omega arith)) folds
+
+    pub read_digits : (f : F) (r : Option ℕ) (u : S) → TryFoldsItems steps g goes_on (λ e o. o ≡ None) s f 0 r u → MatchOption r ((n : ℕ) → Field field n → ⊥) (Field field)
+    read_digits f r u (items, None, h, n, y, folds, last) =
+        let all = (YieldsList-end road items y.0 y.1 None u refl y.2).0 in
+        let sum = subst (λ ds. Summed ds n) all (summed items f (h, n) folds) figures in
+        let field_n : Field field n = subst (Field field) (sym sum.0) (field_is field is (omega (arith, sum.0, sum.1))) in
+        subst (λ o. MatchOption o ((n : ℕ) → Field field n → ⊥) (Field field)) (sym last) field_n
+    read_digits f r u (items, Some item, h, n, y, folds, last) =
+        let front = YieldsList-so_far road items y.0 y.1 in
+        let here = item_is items y.0 item u y.1 y.2 in
+        let sum = subst (λ ds. Summed ds n) front (summed items f (h, n) folds) (within_take 48 57 field (length items) figures) in
+        let next = unheld (n * 10 + (item.now - 48)) (sym last.4 ∙ gives h n item last.0 last.1 last.3) in
+        let more = value_push (take (length items) field) item.now here.2 here.3 in
+        let long = digits_value_more 10 field (length items) here.0 in
+        let least = digits_value-take-le 10 field (length items + 1) (omega arith) in
+        let same : digit_value item.now ≡ item.now - 48 = grind (arith, nat_tests) in
+        let beyond : 65535 < digits_value 10 field = omega (arith, sum.0, next, long, least, same, ap digit_value here.1) in
+        subst (λ o. MatchOption o ((n : ℕ) → Field field n → ⊥) (Field field)) (sym last.5) (too_large field beyond)
+
+-- A number that is there settles the field, and so does a refusal where none is.
+pub settled : {E : Type 0} (field : List ℕ) (o : Option ℕ) (e : E) (r : Result ℕ E) → r ≡ ok_or o e → MatchOption o ((n : ℕ) → Field field n → ⊥) (Field field) → Settles r (Field field)
+settled field None e r is none = subst (λ x. Settles x (Field field)) (sym is) none
+settled field (Some n) e r is found = subst (λ x. Settles x (Field field)) (sym is) found
+
 -- Numbers that stand behind a name: those that are read, and what is left behind them.
 abbrev AllSmall : List ℕ → Type 0
 AllSmall ns = AllByRecursion (λ n. n < 65536) ns
@@ -119,9 +235,6 @@ pub record Sofar (rest : Option (List ℕ)) (ns : List ℕ) (left : Option (List
 
 pub sofar_none : (rest : Option (List ℕ)) → Sofar rest [] rest
 sofar_none rest = record { small = tt; whole = λ ms e. e; parts = λ all small e. (all, refl, small, e) }
-
-pub inside : {X : Type 0} (x y : X) → ◌≡◌ {A = Option X} (Some x) (Some y) → x ≡ y
-inside x y e = cc
 
 -- The next field, where one is left.
 module _ (fields front : List ℕ) (left back : Option (List ℕ)) (is : left ≡ Some fields) (f : front ≡ front_of 32 fields) (b : back ≡ back_of 32 fields) where

@@ -1,5 +1,5 @@
 // The numbers of a line.
-ghost use Rattle.std.specs.Prelude.{◌≡◌, ◌<◌};
+ghost use Rattle.std.specs.Prelude.{◌≡◌, ◌+◌, ◌-◌, ◌*◌, ◌<◌, ◌≤◌, Some, None, if◌then◌else◌, nat_lt};
 ghost use Rattle.std.specs.Option.{option_map};
 ghost use Rattle.parsing.specs.Numbers.{Settles, numeral, Field, Numbers};
 
@@ -8,7 +8,6 @@ use crate::reason::Reason;
 use crate::split::{Parts, split};
 use crate::within::all_within;
 use listing::text::Printable;
-use std::str;
 
 // Digits as they are printed: there is one at least, and a 0 in front stands alone.
 fn is_numeral(field: &[u8]) -> bool
@@ -20,6 +19,14 @@ fn is_numeral(field: &[u8]) -> bool
     }
 }
 
+// The number with one digit more, where two bytes hold it.
+fn with_digit(number: u16, digit: u8) -> Option<u16>
+    requires { 48 ≤ digit }
+    ensures { let n = number * 10 + (digit - 48) in result ≡ (if nat_lt n 65536 then Some n else None) }
+{
+    number.checked_mul(10)?.checked_add(u16::from(digit - b'0'))
+}
+
 // The number that is printed as the field.
 fn number<'a>(field: &'a [u8]) -> Result<u16, Reason<'a>>
     ensures { Settles result (Field field.now) }
@@ -27,10 +34,15 @@ fn number<'a>(field: &'a [u8]) -> Result<u16, Reason<'a>>
     if !is_numeral(field) {
         return Err(Reason::NoNumber(Printable(field)));
     }
-    let digits = str::from_utf8(field).unwrap();
-    digits
-        .parse()
-        .map_err(|_| Reason::TooLarge(Printable(field)))
+    field
+        .iter()
+        .try_fold(
+            0,
+            |number, digit|
+                requires { 48 ≤ digit.now }
+            { with_digit(number, *digit) },
+        )
+        .ok_or(Reason::TooLarge(Printable(field)))
 }
 
 // The numbers behind a name that takes so many.

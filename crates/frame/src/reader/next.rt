@@ -6,12 +6,9 @@ ghost use Rattle.frame.specs.Reading.{raw, Steps, bytes_left};
 ghost use Rattle.std.specs.Iterator.{at_most};
 
 use crate::decode::{decode, number};
-use crate::frame::Frame;
+use crate::frame::{Frame, HEAD};
 use crate::reader::Reader;
 use fault::fault::FileFault;
-
-// The bytes of a frame before its body: two of length and two of kind.
-const HEAD: usize = 4;
 
 // A frame that is whole, of any kind and with any body.
 #[derive(Clone, Copy)]

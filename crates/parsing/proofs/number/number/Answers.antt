@@ -1,18 +1,21 @@
-use Rattle.std.proofs.Common.{◌≡◌, sym}
-use Rattle.parsing.specs.Numbers.{Field}
-use Rattle.parsing.proofs.Figures.{no_numeral, parsed, digits_utf8, err_mapped, ok_of, at_ok}
+use Rattle.std.proofs.Common.{sym, rules}
+use Rattle.parsing.proofs.Figures.{no_numeral, item_is, read_digits, settled}
+use Rattle.std.proofs.lemmas.Fn.{serves_by}
+use Rattle.std.proofs.lemmas.Iterator.{YieldsList-from_slice}
 use Rattle.parsing.proofs.number.number.Goals as goal
 
 pub returns-then-not-is_numeral : goal.returns-then-not-is_numeral
 returns-then-not-is_numeral c = no_numeral _ (sym c.if-not-is_numeral.ensures)
 
-pub unwrap-digits-requires : goal.unwrap-digits-requires
-unwrap-digits-requires c =
-    let text = digits_utf8 c.args.field.now (sym c.if-not-is_numeral.ensures) in
-    ok_of _ _ c.from_utf8.result c.from_utf8.ensures.cases (λ e none. none.0 text)
+pub try_fold-requires-clause-callable : goal.try_fold-requires-clause-callable
+try_fold-requires-clause-callable c =
+    serves_by _ (λ items q. Unit {0}) (λ items q item v j turn. tt) _ _ _ _ tt
+    (λ items t q item u y step j.
+    let p = item_is c.args.field.now (sym c.if-not-is_numeral.ensures) (YieldsList-from_slice c.args.field.now c.iter.ensures.rest) items t item u y step in
+    let low = p.2 in search rules)
 
 pub returns : goal.returns
 returns c =
-    let same : c.unwrap-digits.result.now ≡ c.args.field.now = (at_ok _ _ _ _ c.unwrap-digits.ensures c.from_utf8.ensures.cases).0 in
-    let parses = rw same at c.parse.ensures.value.0 in
-    err_mapped (Field c.args.field.now) _ c.parse.result c.map_err.result c.map_err.ensures.cases (parsed _ c.parse.result (sym c.if-not-is_numeral.ensures) parses)
+    let read = read_digits c.args.field.now (sym c.if-not-is_numeral.ensures) (YieldsList-from_slice c.args.field.now c.iter.ensures.rest)
+    _ _ (λ h n item r k called. search rules) _ c.try_fold.result _ c.try_fold.ensures.ran in
+    settled _ _ _ _ c.ok_or.ensures.value read
