@@ -27,7 +27,9 @@ impl Reading for PlainRack {
 
 impl Serving for PlainRack {
     fn write(&mut self, bay: usize, line: usize, word: u16) -> Result<(), RackFault> {
-        let place = self.reach(bay, line)?;
+        self.reach(bay, line)?;
+        // Not the place that `reach` gives: with this one a loop over the lines of a bay writes them as one block.
+        let place = self.shape.place(bay, line);
         self.words[place] = word;
         Ok(())
     }
