@@ -54,6 +54,8 @@ impl<F: BaseField> Book<F> {
     pub fn is_behind(&self, bay: usize) -> bool
         ensures value { result ≡ (knows self.now).behind bay }
         ensures beyond { 260 ≤ bay → result ≡ false }
+        ensures some { 1 ≤ (knows self.now).items }
+        ensures few { (knows self.now).items ≤ size F.Field.structure }
     {
         self.behind.contains(bay)
     }

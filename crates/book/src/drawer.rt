@@ -1,5 +1,6 @@
 // The book with an open drawer, between the release of a bay and its seating.
 ghost use Rattle.std.specs.Prelude.{◌≡◌, ◌≤◌, true, false, Some, None, OnOk, OnErr, IfOk, IfErr};
+ghost use Rattle.field.specs.Structure.{size};
 ghost use Rattle.rack.specs.Calls.{exchange_after};
 ghost use Rattle.rules.specs.Known.{front_of, put, with_behind};
 ghost use Rattle.book.specs.Known.{knows};
@@ -61,10 +62,21 @@ impl<F: BaseField> Book<F> {
 }
 
 impl<F: BaseField> OpenBook<F> {
+    // How many items the book has, N.
+    pub fn items(&self) -> usize
+        ensures value { result ≡ (knows self.now.book).items }
+        ensures some { 1 ≤ result }
+        ensures few { result ≤ size F.Field.structure }
+    {
+        self.book.items()
+    }
+
     // Whether a bay is behind.
     pub fn is_behind(&self, bay: usize) -> bool
         ensures value { result ≡ (knows self.now.book).behind bay }
         ensures beyond { 260 ≤ bay → result ≡ false }
+        ensures some { 1 ≤ (knows self.now.book).items }
+        ensures few { (knows self.now.book).items ≤ size F.Field.structure }
     {
         self.book.is_behind(bay)
     }

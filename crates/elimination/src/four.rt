@@ -28,6 +28,19 @@ impl<T: Copy> Four<T> {
         }
     }
 
+    // What a closure makes of the two values at each place.
+    pub fn zip_with<M: Fn(T, T) -> T>(self, other: Four<T>, make: M) -> Four<T>
+        requires { (k : ℕ) → k < 4 → M.pre make (place self k) (place other k) }
+        ensures { (k : ℕ) → k < 4 → M.post make (place self k) (place other k) (place result k) }
+    {
+        Four {
+            a: make(self.a, other.a),
+            b: make(self.b, other.b),
+            c: make(self.c, other.c),
+            d: make(self.d, other.d),
+        }
+    }
+
     // The four values with another at a place; from 3 on it is the last.
     pub fn with(self, i: usize, x: T) -> Four<T>
         ensures { result ≡ put self i x }

@@ -55,7 +55,9 @@ impl<F: Field> Equation<F> {
         ensures { result ≡ summed F.Field.structure self other }
     {
         Equation {
-            coefficients: Four::from_fn(|j| self.coefficients[j].plus(other.coefficients[j])),
+            coefficients: self
+                .coefficients
+                .zip_with(other.coefficients, |x, y| x.plus(y)),
             right: self.right.plus(other.right),
         }
     }

@@ -18,7 +18,7 @@ use field::{BaseField, Field};
 fn add_multiple<F: BaseField>(sums: Four<Ext<F>>, column: Four<Ext<F>>, by: Ext<F>) -> Four<Ext<F>>
     ensures { result ≡ multiple_added F.Field.structure sums column by }
 {
-    Four::from_fn(|k| sums[k].plus(column[k].times(by)))
+    sums.zip_with(column, |sum, entry| sum.plus(entry.times(by)))
 }
 
 // What the present words add to each check word.
@@ -26,7 +26,14 @@ fn present_sums<F: BaseField>(words: &[u16], marks: &[u8]) -> Four<Ext<F>>
     requires { Admitted F.Field.structure words.now marks.now }
     ensures { (k : ℕ) → k < 4 → place result k ≡ present_sum F.Field.structure words.now marks.now k }
 {
-    let mut sums = Four::from_fn(|_| Ext::zero());
+    // By its fields: sums made by a closure would be packed into one number and unpacked again for each bay.
+    let zero = Ext::zero();
+    let mut sums = Four {
+        a: zero,
+        b: zero,
+        c: zero,
+        d: zero,
+    };
     for (bay, (word, mark)) in words.iter().zip(marks).enumerate() {
         if *mark == 0 {
             let word = Ext::<F>::element(u32::from(*word));

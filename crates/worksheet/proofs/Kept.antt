@@ -12,7 +12,6 @@ use Rattle.distance.proofs.Theorem.{one_exists}
 use Rattle.restore.specs.Restored.{absent, first_large, refusal, Admitted, Whole, NoLine, Restored}
 use Rattle.worksheet.specs.Present.{highest}
 use Rattle.worksheet.specs.Lines.{RestoredLine}
-use Rattle.rack.specs.Meaning.{most_bays}
 use Rattle.worksheet.proofs.Highest.{count_others, count_highest}
 
 none_large : (bound : ℕ) (ws ms : List ℕ) → ((i : ℕ) → i < length ws → absent ms i ≡ false → get_or ws i 0 < bound) → first_large bound ws ms ≡ None
@@ -37,8 +36,8 @@ made_whole s bays marks (Err f) after restored some = absurd (some restored.2)
 
 -- The words of the n present bays with the highest numbers, as `restore` takes them; the other bays are marked.
 pub record Laid (n : ℕ) (here : ℕ → Bool) (word : ℕ → ℕ) (words marks : List ℕ) : Type 0 where
-  pub long_words : length words ≡ most_bays
-  pub long_marks : length marks ≡ most_bays
+  pub long_words : n + 4 ≤ length words
+  pub long_marks : n + 4 ≤ length marks
   pub chosen : (bay : ℕ) → bay < n + 4 → absent marks bay ≡ not (highest n here bay)
   pub read : (bay : ℕ) → bay < n + 4 → highest n here bay ≡ true → get_or words bay 0 ≡ word bay
 

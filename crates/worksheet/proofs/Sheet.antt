@@ -11,7 +11,7 @@ use Rattle.codeword.specs.Sums.{count}
 use Rattle.codeword.specs.Codeword.{words as count_words, codeword}
 use Rattle.codeword.proofs.Counts.{count_ext}
 use Rattle.restore.specs.Restored.{refusal, Restored}
-use Rattle.rack.specs.Meaning.{Meaning, most_bays}
+use Rattle.rack.specs.Meaning.{Meaning}
 use Rattle.worksheet.specs.Present.{present, absent, absences, highest}
 use Rattle.worksheet.specs.Lines.{word_at, why_unrestored, RestoredLine, Holds, OnSheet}
 use Rattle.worksheet.specs.Looking.{Surveyed}
@@ -80,16 +80,15 @@ module _ {K : Type 0} (s : Structure K) (m : Meaning) (behind : ℕ → Bool) (s
   small : (bay : ℕ) → word_at s m line bay < count_words s
   small bay = mod-lt (m.word bay line) {m = count_words s} (omega (arith, (extend s).value_lt (extend s).zero))
 
-  -- the words as `restore` takes them were copied onto the sheet, and restored there
-  module _ (words marks : List ℕ) (long_words : length words ≡ most_bays) (long_marks : length marks ≡ most_bays)
-      (words_at : (bay : ℕ) → bay < most_bays → get_or words bay 0 ≡ unwrap_or (get_or seen bay None) 0)
-      (marks_at : (bay : ℕ) → bay < most_bays → not (eqb (get_or marks bay 0) 0) ≡ not (is_some (get_or seen bay None)))
-      (copied : List ℕ) (copy : copied ≡ take bays words) (few : gone ≤ 4) where
+  -- the words were laid out on the sheet as `restore` takes them, and restored there
+  module _ (words marks : List ℕ) (long_words : length words ≡ length sheet) (long_marks : bays ≤ length marks)
+      (words_at : (bay : ℕ) → bay < bays → get_or words bay 0 ≡ unwrap_or (get_or seen bay None) 0)
+      (marks_at : (bay : ℕ) → bay < bays → not (eqb (get_or marks bay 0) 0) ≡ not (is_some (get_or seen bay None))) (few : gone ≤ 4) where
     laid : Laid (bays - 4) here (word_at s m line) words marks
     unfolding kept
     laid = record {
-      long_words = long_words;
-      long_marks = long_marks;
+      long_words = omega (arith, long_words);
+      long_marks = omega arith;
       chosen = λ bay h. marks_at bay (omega arith) ∙ ap not (word_kept bay (omega arith));
       read = λ bay h on. words_at bay (omega arith) ∙ ap (λ o. unwrap_or o 0) (found.kept bay h) ∙ ap (λ b. unwrap_or (cond b (Some (word_at s m line bay)) None) 0) on;
     }
@@ -98,46 +97,28 @@ module _ {K : Type 0} (s : Structure K) (m : Meaning) (behind : ℕ → Bool) (s
     unfolding kept
     enough = subst (λ k. bays - 4 ≤ count kept k) (sym items) (omega (arith, all_kept, few))
 
-    rest : List ℕ
-    rest = drop bays (copied ++ drop bays sheet)
-
-    long_copied : length copied ≡ bays
-    long_copied = ap length copy ∙ length-take-le bays words (omega (arith, long_words))
-
-    front : take bays (copied ++ drop bays sheet) ≡ take bays words
-    front = take_at copied (drop bays sheet) bays long_copied ∙ copy
-
-    long_rest : length rest ≡ length sheet - bays
-    unfolding rest
-    long_rest =
-        length-drop bays (copied ++ drop bays sheet)
-        ∙ omega (arith, length-append copied (drop bays sheet), length-drop bays sheet, long_copied)
-
-    restored : (r : Result (Unit {0}) BookFault) (after : List ℕ)
-        → Restored s (refusal s (take bays (copied ++ drop bays sheet)) (take bays marks)) (take bays (copied ++ drop bays sheet)) (take bays marks) r after
+    restored : (r : Result (Unit {0}) BookFault) (after : List ℕ) → Restored s (refusal s (take bays words) (take bays marks)) (take bays words) (take bays marks) r after
         → (r ≡ Ok tt) × ((items : List ℕ) × RestoredLine s (bays - 4) here (word_at s m line) items × (after ≡ codeword s items))
     restored r after so =
         restored_line s (bays - 4) here (word_at s m line) words marks laid (omega arith) (omega arith) (omega arith) enough small r after
-        (subst (λ k. Restored s (refusal s (take k words) (take k marks)) (take k words) (take k marks) r after) (sym items)
-        (subst (λ ws. Restored s (refusal s ws (take bays marks)) ws (take bays marks) r after) front so))
+        (subst (λ k. Restored s (refusal s (take k words) (take k marks)) (take k words) (take k marks) r after) (sym items) so)
 
     -- the answer, and what then stands on the sheet
-    pub accepted : (r : Result (Unit {0}) BookFault) (after : List ℕ)
-        → Restored s (refusal s (take bays (copied ++ drop bays sheet)) (take bays marks)) (take bays (copied ++ drop bays sheet)) (take bays marks) r after
-        → (refusal_of r ≡ why_unrestored s m behind (length sheet) line) × OnOk r (OnSheet s m behind line sheet (after ++ drop bays (copied ++ drop bays sheet)))
-        × OnErr r (after ++ drop bays (copied ++ drop bays sheet) ≡ sheet)
-    unfolding rest here
+    pub accepted : (r : Result (Unit {0}) BookFault) (after : List ℕ) → Restored s (refusal s (take bays words) (take bays marks)) (take bays words) (take bays marks) r after
+        → (refusal_of r ≡ why_unrestored s m behind (length sheet) line) × OnOk r (OnSheet s m behind line sheet (after ++ drop bays words))
+        × OnErr r (after ++ drop bays words ≡ sheet)
+    unfolding here
     accepted r after so =
         let (ok, (items, line_is, code)) = restored r after so in
         let wide-after : length after ≡ bays = ap length code ∙ omega (arith, line_is.line.long) in
-        let holds : Holds s (bays - 4) (present m.switch behind) (word_at s m line) sheet (after ++ rest) = record {
+        let holds : Holds s (bays - 4) (present m.switch behind) (word_at s m line) sheet (after ++ drop bays words) = record {
           items = items;
           restored = line_is;
-          long = length-append after rest ∙ omega (arith, wide-after, long_rest);
-          front = take_at after rest (bays - 4 + 4) (omega (arith, wide-after)) ∙ code;
+          long = length-append after (drop bays words) ∙ omega (arith, wide-after, length-drop bays words, long_words);
+          front = take_at after (drop bays words) (bays - 4 + 4) (omega (arith, wide-after)) ∙ code;
         } in (
           ap refusal_of ok ∙ sym (not_refused few),
-          subst (λ x. OnOk x (OnSheet s m behind line sheet (after ++ rest))) (sym ok)
-              (subst (λ k. Holds s (k - 4) (present m.switch behind) (word_at s m line) sheet (after ++ rest)) wide holds),
-          subst (λ x. OnErr x (after ++ rest ≡ sheet)) (sym ok) tt,
+          subst (λ x. OnOk x (OnSheet s m behind line sheet (after ++ drop bays words))) (sym ok)
+              (subst (λ k. Holds s (k - 4) (present m.switch behind) (word_at s m line) sheet (after ++ drop bays words)) wide holds),
+          subst (λ x. OnErr x (after ++ drop bays words ≡ sheet)) (sym ok) tt,
         )

@@ -8,5 +8,5 @@ use Rattle.restore.proofs.restoring.add_multiple.Goals as goal
 pub returns : goal.returns
 returns g c =
     let s = extend g.F.Field.structure in
-    is_made (λ k. s.plus (place c.args.sums k) (s.times (place c.args.column k) c.args.by)) c.from_fn.result
-    (λ k h. let made = c.from_fn.ensures k h in search rules)
+    is_made (λ k. s.plus (place c.args.sums k) (s.times (place c.args.column k) c.args.by)) c.zip_with.result
+    (λ k h. let made = c.zip_with.ensures k h in search rules)

@@ -1,7 +1,9 @@
 -- Each turn passes a bay, and adds its multiple where it is present.
-use Rattle.std.proofs.Common.{◌≡◌, ◌+◌, true, false, drop, get_or, length, refl, sym, ap, subst, ◌∙◌, inl, inr, rules, arith, length-drop}
+use Rattle.std.proofs.Common.{◌≡◌, ◌+◌, true, false, drop, get_or, length, refl, sym, ap, subst, ◌∙◌, inl, inr, arith, length-drop}
 use Rattle.std.proofs.lemmas.Bool.Decides.{nat_tests}
 use Rattle.extension.specs.Extend.{extend}
+use Rattle.elimination.specs.Places.{made}
+use Rattle.elimination.proofs.Places.{place_made}
 use Rattle.distance.specs.Column.{column}
 use Rattle.restore.specs.Restored.{absent}
 use Rattle.restore.proofs.PresentSums.{Sums, sums_none, sums_take, sums_skip, drop_head}
@@ -11,8 +13,8 @@ pub loop-bay-init : goal.loop-bay-init
 loop-bay-init g c =
     let none : c.into_iter-bay-iterator.result.count ≡ 0 = cc in
     record {
-      sums = subst (λ n. Sums g.F.Field.structure c.args.words.now c.args.marks.now n c.from_fn-sums.result) (sym none)
-          (sums_none g.F.Field.structure c.args.words.now c.args.marks.now c.from_fn-sums.result (λ k h. let made = c.from_fn-sums.ensures k h in search rules));
+      sums = subst (λ n. Sums g.F.Field.structure c.args.words.now c.args.marks.now n (made (λ k. c.zero-zero.result))) (sym none)
+          (sums_none g.F.Field.structure c.args.words.now c.args.marks.now (made (λ k. c.zero-zero.result)) (λ k h. place_made (λ k. c.zero-zero.result) k h ∙ c.zero-zero.ensures));
       within = omega arith;
       words_left = rw none (cc);
       marks_left = rw none (cc);
