@@ -1,4 +1,8 @@
-use Rattle.std.proofs.Common.{length, ap}
+use Rattle.std.proofs.Common.{◌≡◌, length, ap, arith}
+use Rattle.std.proofs.lemmas.Grind.{common_steps}
+use Rattle.fault.specs.declared.fault.Fault.TheVariants.{Book}
+use Rattle.ledger.specs.declared.Answer.TheVariants.{Word}
+use Rattle.ledger.specs.Answering.{AnswerTo}
 use Rattle.book.specs.Known.{knows}
 use Rattle.ledger.proofs.Turns.{turn_get, turn_post, turn_mend, turn_off, turn_on, turn_released, turn_not_released, turn_seated}
 use Rattle.bank.proofs.turns.turn.Goals as goal
@@ -15,8 +19,9 @@ pub returns-in-Closed-Get-clause-turned : goal.returns-in-Closed-Get-clause-turn
 returns-in-Closed-Get-clause-turned g c =
     let called = c.in-Closed-Get in
     let told = c.get.ensures in
+    let answered : AnswerTo (λ w x. x ≡ Word w) (λ e f. f ≡ Book e) c.get.result c.from-answer.result = grind (arith, common_steps) in
     rw (called.is-0, called.is-1)
-    (turn_get g.F.Field.structure (length c.args.sheet.now) _ _ called.item called.line _ _ _ c.from-answer.ensures told.refused told.gives told.after)
+    (turn_get g.F.Field.structure (length c.args.sheet.now) _ _ called.item called.line _ _ _ answered told.refused told.gives told.after)
 
 pub returns-in-Closed-Post-clause-turned : goal.returns-in-Closed-Post-clause-turned
 returns-in-Closed-Post-clause-turned g c =
