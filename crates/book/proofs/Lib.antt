@@ -2,6 +2,7 @@ mod Getting
 mod Hearing
 mod Marks
 mod Mending
+mod Others
 mod Posting
 mod Reasons
 mod Revising

@@ -31,9 +31,13 @@ impl<F: BaseField> Book<F> {
     fn others_behind(&self, bay: usize) -> usize
         ensures { result ≡ others_behind (knows self.now) bay }
     {
-        (0..self.items + 4)
-            .filter(|other| self.behind.contains(*other) && *other != bay)
-            .count()
+        let bays = self.items + 4;
+        let all = self.behind.count_below(bays);
+        if bay < bays && self.behind.contains(bay) {
+            all - 1
+        } else {
+            all
+        }
     }
 
     // Marks a bay behind and opens its drawer. A refused call hands the book back.

@@ -55,6 +55,7 @@ impl BaySet {
     pub fn count_below(&self, bays: usize) -> usize
         ensures { result ≡ count (marked self.now) bays }
     {
-        (0..bays).filter(|bay| self.contains(*bay)).count()
+        let marks = &self.marks[..bays.min(MOST_BAYS)];
+        marks.iter().filter(|mark| **mark).count()
     }
 }

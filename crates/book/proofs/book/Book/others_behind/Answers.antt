@@ -1,19 +1,30 @@
-use Rattle.std.proofs.Common.{ℕ, ◌+◌, Bool, not, ◌&&◌, eqb, ap, ◌∙◌, rules, tests, arith}
-use Rattle.std.proofs.lemmas.Iterator.{YieldsList-from_range}
-use Rattle.std.proofs.lemmas.Iterator.Consumers.{YieldsList-from_filter, count_from_yields_List}
-use Rattle.std.proofs.lemmas.List.Sums.{length-filter}
+use Rattle.std.proofs.Common.{◌+◌, sym, ap, ◌∙◌, arith}
 use Rattle.worksheet.specs.Lines.{marked}
-use Rattle.worksheet.proofs.Tally.{count_of_numbers}
 use Rattle.rules.specs.Rules.{others_behind}
 use Rattle.book.specs.Kept.{Kept}
 use Rattle.book.specs.Known.{knows}
+use Rattle.book.proofs.Others.{count_but_on, count_but_off, count_but_out}
 use Rattle.book.proofs.book.Book.others_behind.Goals as goal
+use Rattle.book.proofs.book.Book.others_behind.Goals.{else-bay-bays-via-then-bay-bays+else-contains, else-bay-bays-via-else-bay-bays}
 
-pub returns : goal.returns
-returns g c =
-    let behind = c.self.inside.behind in
-    let bays = c.self.inside.items + 4 in
-    let test : ℕ → Bool = λ b. marked behind b && not (eqb b c.args.bay) in
-    count_from_yields_List c.filter.result _ c.count.ensures.ran
-    (YieldsList-from_filter _ test (YieldsList-from_range 0 bays bays c.filter.ensures.source (omega arith)) c.filter.ensures.closure (λ x b q k. search (rules, tests)))
-    ∙ length-filter test _ ∙ count_of_numbers test bays ∙ ap (λ (k : Kept). others_behind (knows k) c.args.bay) c.self.view_is
+pub overflow_sub-result : goal.overflow_sub-result
+overflow_sub-result g c =
+    let on = sym c.contains.ensures.value ∙ c.if-contains.true in
+    omega (arith, c.count_below-all.ensures, count_but_on (marked c.self.inside.behind) c.args.bay (c.self.inside.items + 4) (omega (arith, c.if-bay-bays.true)) on)
+
+pub returns-then-contains : goal.returns-then-contains
+returns-then-contains g c =
+    let on = sym c.contains.ensures.value ∙ c.if-contains.true in
+    let others = count_but_on (marked c.self.inside.behind) c.args.bay (c.self.inside.items + 4) (omega (arith, c.if-bay-bays.true)) on in
+    omega (arith, c.count_below-all.ensures, others) ∙ ap (λ (k : Kept). others_behind (knows k) c.args.bay) c.self.view_is
+
+pub returns-else-bay-bays : goal.returns-else-bay-bays
+returns-else-bay-bays g c =
+    elim c.else-bay-bays.branch [
+      | else-bay-bays-via-then-bay-bays+else-contains w ↦
+          c.count_below-all.ensures ∙ sym (count_but_off (marked c.self.inside.behind) c.args.bay (c.self.inside.items + 4) (sym w.contains.ensures.value ∙ w.if-contains.false))
+          ∙ ap (λ (k : Kept). others_behind (knows k) c.args.bay) c.self.view_is
+      | else-bay-bays-via-else-bay-bays w ↦
+          c.count_below-all.ensures ∙ sym (count_but_out (marked c.self.inside.behind) c.args.bay (c.self.inside.items + 4) (omega (arith, w.if-bay-bays.false)))
+          ∙ ap (λ (k : Kept). others_behind (knows k) c.args.bay) c.self.view_is
+    ]
