@@ -38,10 +38,10 @@ marks_counted marks n =
     elim (cases_lt n (length marks)) [
       | inl few ↦ first ∙ ap (count (marked marks)) (min-eq_left (omega (arith, few)))
       | inr many ↦
-        let all : least ≡ length marks = min-eq_right (omega (arith, many)) in
-        let rest : length marks + (n - length marks) ≡ n = omega (arith, many) in
-        first ∙ ap (count (marked marks)) all
-        ∙ sym (ap (count (marked marks)) (sym rest) ∙ count_beyond (marked marks) (length marks) (n - length marks) (λ i h. get_or_past marks i false h))
+          let all : least ≡ length marks = min-eq_right (omega (arith, many)) in
+          let rest : length marks + (n - length marks) ≡ n = omega (arith, many) in
+          first ∙ ap (count (marked marks)) all
+          ∙ sym (ap (count (marked marks)) (sym rest) ∙ count_beyond (marked marks) (length marks) (n - length marks) (λ i h. get_or_past marks i false h))
     ]
 
 -- of the first n numbers
